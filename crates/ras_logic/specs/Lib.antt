@@ -1,0 +1,13 @@
+pub mod Places
+pub mod Schemas
+pub mod SchemaFaults
+pub mod Chains
+pub mod Shapes
+pub mod ShapeFaults
+pub mod Databases
+pub mod Terms
+pub mod Formulas
+pub mod CubeFaults
+pub mod Truth
+pub mod Clashes
+pub mod Refutations
