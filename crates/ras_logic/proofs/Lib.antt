@@ -1,5 +1,7 @@
 pub mod AllSteps
 pub mod Chains
+pub mod Clashes
+pub mod Closing
 pub mod Columns
 pub mod Rounds
 pub mod TermSorts

@@ -4,12 +4,13 @@ use Rattle.ras_logic.specs.declared.ids.SortId.{SortId}
 use Rattle.ras_logic.specs.declared.ids.RelId.{RelId}
 use Rattle.ras_logic.specs.declared.term.Base.{Base}
 use Rattle.ras_logic.specs.declared.term.Base.TheVariants.{Param}
+use Rattle.ras_logic.specs.declared.term.Term.{Term}
 use Rattle.ras_logic.specs.declared.literal.Literal.{Literal}
 use Rattle.ras_logic.specs.declared.literal.Literal.TheVariants.{Equal}
 use Rattle.ras_logic.specs.declared.problem.Problem.{Problem}
 use Rattle.ras_logic.specs.Schemas.{IsSort}
 use Rattle.ras_logic.specs.Shapes.{ShapeParts, IsRelation}
-use Rattle.ras_logic.specs.Terms.{sort_of}
+use Rattle.ras_logic.specs.Terms.{sort_of, replace_term}
 
 -- both sides have one and the same sort
 abbrev pub LiteralFits : ShapeParts → List RelId → List SortId → Literal → Type 0
@@ -39,3 +40,7 @@ pub record IsCube (p : Problem) : Type 0 where
 -- the literal that holds just where this one does not
 abbrev pub negated : Literal → Literal
 negated (Equal left right same) = Equal left right (not same)
+
+-- the bases of both sides replaced
+abbrev pub replace : (Base → Term) → Literal → Literal
+replace f (Equal left right same) = Equal (replace_term f left) (replace_term f right) same

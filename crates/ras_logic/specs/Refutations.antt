@@ -6,22 +6,16 @@ use Rattle.ras_logic.specs.declared.term.Base.{Base}
 use Rattle.ras_logic.specs.declared.term.Base.TheVariants.{Cell}
 use Rattle.ras_logic.specs.declared.term.Term.{Term}
 use Rattle.ras_logic.specs.declared.literal.Literal.{Literal}
-use Rattle.ras_logic.specs.declared.literal.Literal.TheVariants.{Equal}
 use Rattle.ras_logic.specs.declared.problem.Problem.{Problem}
+use Rattle.ras_logic.specs.declared.raw_db.RawDb.{RawDb}
+use Rattle.ras_logic.specs.declared.values.Values.{Values}
 use Rattle.ras_logic.specs.declared.tree.Node.{Node}
 use Rattle.ras_logic.specs.declared.tree.Node.TheVariants.{Leaf, Split}
 use Rattle.ras_logic.specs.Schemas.{SchemaParts}
 use Rattle.ras_logic.specs.Terms.{base_term}
-use Rattle.ras_logic.specs.Formulas.{negated}
+use Rattle.ras_logic.specs.Formulas.{negated, replace}
+use Rattle.ras_logic.specs.Truth.{AllHold}
 use Rattle.ras_logic.specs.Clashes.{FactsClash}
-
--- the base of a term replaced by a term, whose path the path of the old term follows
-abbrev pub replace_term : (Base → Term) → Term → Term
-replace_term f t = let u : Term = f t.base in record { base = u.base; path = u.path ++ t.path }
-
--- the bases of both sides replaced
-abbrev pub replace : (Base → Term) → Literal → Literal
-replace f (Equal left right same) = Equal (replace_term f left) (replace_term f right) same
 
 -- the chosen rows of the premise: as many as the formula's, each of its relation, all different
 pub record AreRowsOf (premise formula : List RelId) (chosen : List ℕ) : Type 0 where
@@ -51,3 +45,12 @@ CloseAll schema formulas rows (facts ∷ pending) (Split formula chosen children
 -- the nodes are one tree that refutes the premise by cases on the formulas
 abbrev pub Closes : SchemaParts → Problem → List Problem → List Node → Type 0
 Closes schema premise formulas nodes = CloseAll schema formulas premise.rows (premise.literals ∷ []) nodes
+
+-- some formula holds of some rows of the premise
+pub record HoldsOfSome (d : RawDb) (v : Values) (rows : List RelId) (formulas : List Problem) : Type 0 where
+  pub number : ℕ
+  pub formula : Problem
+  pub known : slice_get formulas number ≡ Some formula
+  pub chosen : List ℕ
+  pub rows_of : AreRowsOf rows formula.rows chosen
+  pub literals : AllHold d v (map (replace (chosen_row chosen)) formula.literals)

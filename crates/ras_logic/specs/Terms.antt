@@ -47,3 +47,7 @@ sort_along schema (f ∷ path) s = option_and_then (sort_along schema path) (sor
 -- the sort of a term: none where a number names nothing, or a function's source is another sort
 abbrev pub sort_of : ShapeParts → List RelId → List SortId → Term → Option SortId
 sort_of shape rows params t = option_and_then (sort_along shape.schema t.path) (sort_of_base shape rows params t.base)
+
+-- the base of a term replaced by a term, whose path the path of the old term follows
+abbrev pub replace_term : (Base → Term) → Term → Term
+replace_term f t = let u : Term = f t.base in record { base = u.base; path = u.path ++ t.path }

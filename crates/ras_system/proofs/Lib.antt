@@ -1,0 +1,3 @@
+pub mod Backwards
+pub mod Kept
+pub mod Soundness

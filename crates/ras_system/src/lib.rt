@@ -1,0 +1,20 @@
+//! Relational artifact systems: what one is, its steps and runs, when it is safe, and when a certificate of safety is
+//! good. The layer above uses the type `System`, the words of `specs/` and the laws of `law`: an invariant suffices, and a
+//! good certificate suffices.
+#![tactic(auto)]
+
+mod bulk;
+mod choice;
+mod law;
+mod state;
+mod system;
+mod transition;
+mod update;
+
+pub use bulk::{Assign, Bulk};
+pub use choice::Choice;
+pub use law::{a_good_evidence_suffices, an_invariant_suffices};
+pub use state::State;
+pub use system::System;
+pub use transition::Transition;
+pub use update::{Target, Update};
