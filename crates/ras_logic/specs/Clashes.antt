@@ -1,5 +1,6 @@
 -- When facts cannot hold together: the least relation on terms that is closed under the facts and the rules for functions.
--- The literals that give the terms and the facts stand apart, since facts may be learned after the terms.
+-- The literals that give the terms and the facts stand apart, since facts may be learned after the terms; the facts speak
+-- of these terms.
 use Rattle.std.specs.Prelude.{◌≡◌, ◌≢◌, ℕ, ◌<◌, true, false, List, [], ◌∷◌, ◌++◌, length, slice_get, Some, Contains}
 use Rattle.ras_logic.specs.declared.ids.FunId.{FunId}
 use Rattle.ras_logic.specs.declared.ids.SortId.{SortId}
@@ -41,7 +42,8 @@ pub data Together (schema : SchemaParts) (literals : List Literal) (IsFact : Lit
   only_undef : (t : Term) (f : FunId) (d : FunDecl) → slice_get schema.functions f.n ≡ Some d → d.total ≡ true
       → Together schema literals IsFact (image_term t f) (undef_term d.target) → Together schema literals IsFact t (undef_term d.source)
 
--- both sides of a fact that says not same are together, or two constants are, or a constant and undef
+-- Both sides of a fact that says not same are together, or two constants are, or a constant and undef. Where the facts fit
+-- a shape, terms that are together have one sort, so these two constants have too.
 pub data Clash (schema : SchemaParts) (literals : List Literal) (IsFact : Literal → Type 0) : Type 0 where
   stated_apart : (s t : Term) → IsFact (Equal s t false) → Together schema literals IsFact s t → Clash schema literals IsFact
   two_constants : (c e : ConstId) → c ≢ e → Together schema literals IsFact (constant_term c) (constant_term e) → Clash schema literals IsFact

@@ -5,10 +5,11 @@ use Rattle.ras_logic.specs.declared.function.FunDecl.{FunDecl}
 use Rattle.ras_logic.specs.declared.raw_db.RawDb.{RawDb}
 use Rattle.ras_logic.specs.Schemas.{SchemaParts}
 
--- the elements of a sort are 0 to its size, and 0 is undef
+-- the size of a sort
 abbrev pub size_of : RawDb → SortId → ℕ
 size_of d s = get_or d.sizes s.n 0
 
+-- the elements of a sort are 0 to its size, and 0 is undef
 abbrev pub IsElement : RawDb → SortId → ℕ → Type 0
 IsElement d s x = x ≤ size_of d s
 
@@ -37,7 +38,8 @@ pub record IsDatabase (s : SchemaParts) (d : RawDb) : Type 0 where
   pub apart : (j k : ℕ) (c : SortId) → slice_get s.constants j ≡ Some c → slice_get s.constants k ≡ Some c
       → constant_of d j ≡ constant_of d k → j ≡ k
 
--- no sort of the larger is smaller, and its tables and constants agree with the smaller's on the smaller's elements
+-- For databases of one schema: no sort of the larger is smaller, and its tables and constants agree with the smaller's on
+-- the smaller's elements.
 pub record Extends (larger smaller : RawDb) : Type 0 where
   pub sizes : (s : ℕ) → get_or smaller.sizes s 0 ≤ get_or larger.sizes s 0
   pub tables : (f k : ℕ) → k < length (get_or smaller.tables f []) → slice_get (get_or larger.tables f []) k ≡ slice_get (get_or smaller.tables f []) k

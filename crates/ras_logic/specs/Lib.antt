@@ -11,3 +11,4 @@ pub mod CubeFaults
 pub mod Truth
 pub mod Clashes
 pub mod Refutations
+pub mod Trees

@@ -46,7 +46,7 @@ impl Cube {
         }
     }
 
-    /// What `Cube::new` found to hold.
+    /// What every cube is.
     pub fn known(&self)
         ensures cube { IsCube self.now }
         ensures rows { length self.now.rows ≤ 65535 }

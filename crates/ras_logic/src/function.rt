@@ -2,7 +2,8 @@ use crate::ids::SortId;
 use crate::plain::Plain;
 use std::alloc::{AllocError, Global};
 
-/// A unary function of a schema. A total one has undef as the image of undef alone, a nullable one of other elements too.
+/// A unary function of a schema. A total one has undef as the image of undef alone, a nullable one may have it of other
+/// elements too.
 #[derive(Clone, Copy, Debug, PartialEq, Eq)]
 pub struct FunDecl {
     pub source: SortId,

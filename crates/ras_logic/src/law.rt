@@ -1,4 +1,4 @@
-ghost use Rattle.std.specs.Prelude.{◌≡◌, List, All};
+ghost use Rattle.std.specs.Prelude.{◌↔◌, ℕ, List, All};
 ghost use Rattle.ras_logic.specs.declared.literal.Literal.{Literal};
 ghost use Rattle.ras_logic.specs.declared.problem.Problem.{Problem};
 ghost use Rattle.ras_logic.specs.declared.raw_db.RawDb.{RawDb};
@@ -7,12 +7,19 @@ ghost use Rattle.ras_logic.specs.declared.ids.RelId.{RelId};
 ghost use Rattle.ras_logic.specs.declared.ids.SortId.{SortId};
 ghost use Rattle.ras_logic.specs.declared.tree.Node.{Node};
 ghost use Rattle.ras_logic.specs.Shapes.{ShapeParts};
-ghost use Rattle.ras_logic.specs.Schemas.{IsSchema};
+ghost use Rattle.ras_logic.specs.declared.function.FunDecl.{FunDecl};
+ghost use Rattle.ras_logic.specs.Schemas.{IsSchema, HasSorts, IsAcyclic};
+ghost use Rattle.ras_logic.specs.SchemaFaults.{HasCycle};
 ghost use Rattle.ras_logic.specs.Databases.{IsDatabase};
 ghost use Rattle.ras_logic.specs.Formulas.{LiteralFits, Fits, IsCube};
 ghost use Rattle.ras_logic.specs.Truth.{AreValues, AllHold, Satisfies};
 ghost use Rattle.ras_logic.specs.Clashes.{FactsClash};
 ghost use Rattle.ras_logic.specs.Refutations.{Closes, HoldsOfSome};
+
+/// Where the sorts exist, the functions are acyclic exactly where no sequence of them leads back to its start.
+pub fn acyclic_is_without_a_cycle()
+    ensures { (sorts : ℕ) (functions : List FunDecl) → All (HasSorts sorts) functions → (IsAcyclic sorts functions ↔ (¬ HasCycle functions)) }
+{}
 
 /// Facts that clash hold in no database.
 pub fn a_clash_has_no_model()

@@ -23,6 +23,8 @@ mod shape_fault;
 mod shared;
 mod sorting;
 mod term;
+#[cfg(test)]
+mod tests;
 mod tree;
 mod values;
 
@@ -31,7 +33,7 @@ pub use cube_fault::CubeFault;
 pub use function::FunDecl;
 pub use ids::{ConstId, FunId, RelId, SortId, VarId};
 pub use kind::Kind;
-pub use law::{a_clash_has_no_model, a_closed_tree_is_sound};
+pub use law::{a_clash_has_no_model, a_closed_tree_is_sound, acyclic_is_without_a_cycle};
 pub use literal::Literal;
 pub use plain::Plain;
 pub use problem::Problem;
@@ -42,7 +44,7 @@ pub use seq::{List, Rows, Seq};
 pub use shape::Shape;
 pub use shape_fault::ShapeFault;
 pub use shared::Shared;
-pub use sorting::{fits, literal_fits, sort_of, sort_of_base};
+pub use sorting::{cube_fits, fits, literal_fits, sort_of, sort_of_base};
 pub use term::{Base, Term};
 pub use tree::{Node, Tree};
 pub use values::Values;

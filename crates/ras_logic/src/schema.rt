@@ -81,7 +81,7 @@ impl Schema {
         })
     }
 
-    /// What `Schema::new` found to hold.
+    /// What every schema is.
     pub fn known(&self)
         ensures schema { IsSchema self.now }
         ensures limits { HasSchemaLimits self.now }

@@ -88,7 +88,7 @@ impl Shape {
         })
     }
 
-    /// What `Shape::new` found to hold.
+    /// What every shape is.
     pub fn known(&self)
         ensures shape { IsShape self.now }
         ensures schema_limits { HasSchemaLimits self.now.schema }

@@ -2,6 +2,7 @@ ghost use Rattle.std.specs.Prelude.{◌≡◌, ◌↔◌, IsTrue, All};
 ghost use Rattle.ras_logic.specs.Terms.{sort_of as the_sort, sort_of_base as the_base_sort, sort_after as the_next_sort, sort_along};
 ghost use Rattle.ras_logic.specs.Formulas.{Fits, LiteralFits};
 
+use crate::cube::Cube;
 use crate::ids::{FunId, RelId, SortId};
 use crate::literal::Literal;
 use crate::problem::Problem;
@@ -81,17 +82,34 @@ pub fn literal_fits(shape: &Shape, rows: &[RelId], params: &[SortId], literal: &
     }
 }
 
-/// Whether every row and sort of a problem exists, and every literal fits.
+/// Whether every row and sort of a problem exists, and every literal fits. It takes no memory.
 pub fn fits(shape: &Shape, problem: &Problem) -> bool
     ensures { IsTrue result ↔ Fits shape.now problem.now }
 {
-    let rows = problem.rows.as_slice();
-    let params = problem.params.as_slice();
+    parts_fit(
+        shape,
+        problem.rows.as_slice(),
+        problem.params.as_slice(),
+        problem.literals.as_slice(),
+    )
+}
+
+/// Whether every row of a cube exists, and every literal fits. It takes no memory.
+pub fn cube_fits(shape: &Shape, cube: &Cube) -> bool
+    ensures { IsTrue result ↔ Fits shape.now cube.now }
+{
+    cube.known();
+    parts_fit(shape, cube.rows(), &[], cube.literals())
+}
+
+fn parts_fit(shape: &Shape, rows: &[RelId], params: &[SortId], literals: &[Literal]) -> bool
+    ensures { IsTrue result ↔ Fits shape.now (record { rows = rows.now; params = params.now; literals = literals.now }) }
+{
     let sorts = shape.schema().sort_count();
-    let relations = shape.relations().len();
-    rows.iter().all(|r| (r.n as usize) < relations)
+    let relations = shape.relation_count();
+    rows.iter().all(|r| r.n < relations)
         && params.iter().all(|s| s.n < sorts)
-        && all_literals_fit(shape, rows, params, problem.literals.as_slice())
+        && all_literals_fit(shape, rows, params, literals)
 }
 
 fn all_literals_fit(shape: &Shape, rows: &[RelId], params: &[SortId], literals: &[Literal]) -> bool

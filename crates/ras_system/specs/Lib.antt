@@ -1,4 +1,5 @@
 pub mod Systems
+pub mod Plain
 pub mod States
 pub mod Steps
 pub mod Runs
