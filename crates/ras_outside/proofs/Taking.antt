@@ -1,0 +1,15 @@
+-- Bytes that are taken in turns.
+use Rattle.std.proofs.Common.{◌≡◌, ℕ, ◌+◌, ◌-◌, List, Option, length, take, drop, arith}
+use Rattle.std.specs.Io.KnownBytes.{Appends}
+use Rattle.std.proofs.KnownBytes.{Appends-trans}
+use Rattle.std.proofs.Math.Seq.{take-add}
+use Rattle.std.proofs.lemmas.List.{take_all, length-drop}
+
+-- a list after its first i
+pub rest_of : (i : ℕ) (xs : List ℕ) → take (length xs - i) (drop i xs) ≡ drop i xs
+rest_of i xs = take_all _ _ (omega (arith, length-drop i xs))
+
+-- two writes in a row of the front of a list write its front
+pub Appends-take : (a b c : Option (List ℕ)) (i n : ℕ) (xs : List ℕ)
+    → Appends a b (take i xs) → Appends b c (take n (take (length xs - i) (drop i xs))) → Appends a c (take (i + n) xs)
+Appends-take a b c i n xs p q = rw take-add (Appends-trans a b c _ _ p (rw rest_of at q))

@@ -1,0 +1,5 @@
+pub mod Count
+pub mod Told
+pub mod SinkFault
+pub mod MemShelf
+pub mod MemSink
