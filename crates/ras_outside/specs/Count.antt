@@ -5,6 +5,6 @@ use Rattle.std.specs.Prelude.{ℕ, ◌+◌, ◌-◌, ◌^◌, ◌≤◌, min}
 abbrev pub next_count : ℕ → ℕ
 next_count count = min (count + 1) (2 ^ 64 - 1)
 
--- the count went up
+-- the count went up, if it could
 abbrev pub Rose : ℕ → ℕ → Type 0
 Rose before now = next_count before ≤ now

@@ -67,10 +67,9 @@ impl Shelf for MemShelf {
             → HoldsMoreThan (told_of (content_under self.old.files name.now)) most }
     {
         self.calls = self.calls.saturating_add(1);
+        let is_listed = self.failing.contains(&self.calls);
         match find_file(&self.files, name) {
-            Some(content) if !self.failing.contains(&self.calls) => copy_up_to(
-                alloc, content, most,
-            ),
+            Some(content) if !is_listed => copy_up_to(alloc, content, most),
             _ => {
                 self.faults = self.faults.saturating_add(1);
                 Err(LoadFault::Failed)

@@ -34,6 +34,7 @@ pub trait Shelf {
         ensures failed { result ≡ Err LoadFault.Failed
             → Rose (faults self.old name.now) (faults self.new name.now) }
 
+        // What is held stays. No count falls, and only a load that failed raises one.
         ensures held { (other : List ℕ) → told self.new other ≡ told self.old other }
         ensures grows { (other : List ℕ) → faults self.old other ≤ faults self.new other }
         ensures stands { result ≢ Err LoadFault.Failed
