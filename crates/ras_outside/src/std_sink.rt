@@ -120,10 +120,48 @@ fn write_whole<W: Write>(writer: &mut W, bytes: &[u8]) -> Result<(), SinkFault>
 
 #[cfg(test)]
 mod tests {
-    use super::{leading_text, write_whole};
-    use crate::SinkFault;
+    use super::{StdSink, leading_text, write_whole};
+    use crate::{Sink, SinkFault};
+    use std::fmt::Display;
     use std::io;
     use std::io::{ErrorKind, Write};
+
+    // A runtime whose output is closed, and whose error stream takes all.
+    #[derive(Clone, Copy)]
+    struct ClosedOutput;
+
+    impl Print for ClosedOutput {
+        fn print<D: Display + Drop>(&self, _value: D) -> io::Result<()> {
+            Err(io::Error::from(ErrorKind::BrokenPipe))
+        }
+
+        fn println<D: Display + Drop>(&self, _value: D) -> io::Result<()> {
+            Err(io::Error::from(ErrorKind::BrokenPipe))
+        }
+
+        fn write_all(&self, _bytes: &[u8]) -> io::Result<()> {
+            Err(io::Error::from(ErrorKind::BrokenPipe))
+        }
+    }
+
+    impl Eprint for ClosedOutput {
+        fn eprint<D: Display + Drop>(&self, _value: D) -> io::Result<()> {
+            Ok(())
+        }
+
+        fn eprintln<D: Display + Drop>(&self, _value: D) -> io::Result<()> {
+            Ok(())
+        }
+    }
+
+    #[test]
+    fn each_sink_writes_to_its_own_stream(rt: HostRuntime) {
+        let mut output = StdSink::output(ClosedOutput);
+        let mut error = StdSink::error(ClosedOutput);
+        assert_eq!(rt; output.put(b"abc"), Err(SinkFault::Failed { taken: 0 }));
+        assert_eq!(rt; output.put(b""), Ok(()));
+        assert_eq!(rt; error.put(b"abc"), Ok(()));
+    }
 
     // Takes two bytes at a time, and in the end none or an error.
     #[derive(Drop)]
