@@ -1,5 +1,7 @@
 pub mod Systems
 pub mod Plain
+pub mod Known
+pub mod SystemFaults
 pub mod States
 pub mod Steps
 pub mod Runs

@@ -5,6 +5,7 @@ use Rattle.ras_logic.specs.declared.ids.ConstId.{ConstId}
 use Rattle.ras_logic.specs.declared.ids.RelId.{RelId}
 use Rattle.ras_logic.specs.declared.term.Base.TheVariants as base
 use Rattle.ras_logic.specs.declared.term.Term.{Term}
+use Rattle.ras_logic.specs.declared.literal.Literal.{Literal}
 use Rattle.ras_logic.specs.declared.literal.Literal.TheVariants.{Equal}
 use Rattle.ras_logic.specs.declared.problem.Problem.{Problem}
 use Rattle.ras_logic.specs.Schemas.{IsSort}
@@ -30,17 +31,25 @@ abbrev pub target_term : Target → Term
 target_term (Var v) = base_term (base.Var v)
 target_term (Cell row column) = base_term (base.Cell row column)
 
+-- a target and its term as the two sides of a literal
+abbrev pub update_literal : Update → Literal
+update_literal u = Equal (target_term u.target) u.term true
+
 -- a target and its term have one sort
 abbrev pub UpdateFits : ShapeParts → List RelId → List SortId → Update → Type 0
-UpdateFits shape rows params u = LiteralFits shape rows params (Equal (target_term u.target) u.term true)
+UpdateFits shape rows params u = LiteralFits shape rows params (update_literal u)
 
 -- the named rows of a bulk case: the row parameters, and then the updated row
 abbrev pub bulk_rows : Transition → Bulk → List RelId
 bulk_rows t b = t.rows ++ b.relation ∷ []
 
+-- a column of the updated row and its term as the two sides of a literal
+abbrev pub assign_literal : Transition → Assign → Literal
+assign_literal t a = Equal (base_term (base.Cell (length t.rows) a.column)) a.term true
+
 -- a column of the updated row and its term have one sort
 abbrev pub AssignFits : ShapeParts → Transition → Bulk → Assign → Type 0
-AssignFits shape t b a = LiteralFits shape (bulk_rows t b) t.params (Equal (base_term (base.Cell (length t.rows) a.column)) a.term true)
+AssignFits shape t b a = LiteralFits shape (bulk_rows t b) t.params (assign_literal t a)
 
 -- a bulk case: its condition and its terms fit, and no column is assigned twice
 pub record BulkFits (shape : ShapeParts) (t : Transition) (b : Bulk) : Type 0 where

@@ -8,6 +8,7 @@ mod choice;
 mod law;
 mod state;
 mod system;
+mod system_fault;
 mod transition;
 mod update;
 
@@ -16,5 +17,6 @@ pub use choice::Choice;
 pub use law::{a_good_evidence_suffices, an_invariant_suffices};
 pub use state::State;
 pub use system::System;
+pub use system_fault::{SystemFault, SystemKind, SystemPlace};
 pub use transition::Transition;
 pub use update::{Target, Update};
