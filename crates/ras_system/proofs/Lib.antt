@@ -1,3 +1,11 @@
+pub mod BulkGroups
+pub mod NoFaults
+pub mod Passing
+pub mod UpdatedRow
+pub mod InitialConstants
+pub mod KnownTerms
+pub mod Marks
+pub mod FirstFaults
 pub mod Backwards
 pub mod Kept
 pub mod Soundness

@@ -1,5 +1,5 @@
 -- Whether what is named exists, and whether two sides have one sort: tests that compute.
-use Rattle.std.specs.Prelude.{ℕ, Bool, true, false, ◌&&◌, List, length, nat_eq, nat_lt, Option, Some, None, is_some}
+use Rattle.std.specs.Prelude.{Bool, false, ◌&&◌, List, length, nat_eq, nat_lt, Option, Some, None, is_some}
 use Rattle.std.specs.List.{list_all}
 use Rattle.ras_logic.specs.declared.ids.SortId.{SortId}
 use Rattle.ras_logic.specs.declared.ids.FunId.{FunId}

@@ -2,6 +2,7 @@ pub mod Systems
 pub mod Plain
 pub mod Known
 pub mod SystemFaults
+pub mod Slots
 pub mod States
 pub mod Steps
 pub mod Runs

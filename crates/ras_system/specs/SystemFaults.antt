@@ -1,6 +1,7 @@
 -- The first fault of what is no system: a list of checks in order, and the first of them that fails.
-use Rattle.std.specs.Prelude.{ℕ, ◌-◌, ◌≤◌, Bool, true, false, not, ◌&&◌, ◌||◌, List, [], ◌∷◌, ◌++◌, length, min, get_or, slice_get, nat_eq, nat_lt, nat_le, Option, Some, None, is_none, Result, MatchResult, ◌≡◌, flat_map, map, All, take, if◌then◌else◌}
+use Rattle.std.specs.Prelude.{ℕ, ◌-◌, ◌≤◌, Bool, false, not, ◌&&◌, ◌||◌, List, [], ◌∷◌, ◌++◌, length, min, slice_get, nat_eq, nat_lt, nat_le, Option, Some, None, is_none, Result, MatchResult, ◌≡◌, flat_map, All, take, if◌then◌else◌}
 use Rattle.std.specs.List.{list_any, list_all, enumerate_from, zip}
+use Rattle.std.specs.Option.{option_map_or}
 use Rattle.ras_logic.specs.declared.ids.SortId.{SortId}
 use Rattle.ras_logic.specs.declared.ids.ConstId.{ConstId}
 use Rattle.ras_logic.specs.declared.ids.RelId.{RelId}
@@ -20,7 +21,7 @@ use Rattle.ras_system.specs.declared.system_fault.SystemKind.{SystemKind}
 use Rattle.ras_system.specs.declared.system_fault.SystemKind.TheVariants.{Limit, Range, Sort, Target as Twice, NoDisjunct}
 use Rattle.ras_system.specs.declared.system_fault.SystemFault.{SystemFault}
 use Rattle.ras_system.specs.Known.{are_known_relations, are_known_sorts, is_known_literal, is_sorted_literal, is_one_sort}
-use Rattle.ras_system.specs.Systems.{SystemParts, update_literal, assign_literal, bulk_rows}
+use Rattle.ras_system.specs.Systems.{SystemParts, update_literal, case_literals, bulk_rows}
 
 -- at most 8 row parameters, 16 data parameters, 64 disjuncts of 128 literals each, 8 bulk cases with conditions of 16 literals each
 pub record HasTransitionLimits (t : Transition) : Type 0 where
@@ -115,22 +116,22 @@ update_checks shape n t k u =
 abbrev pub is_of_relation : RelId → Bulk → Bool
 is_of_relation r b = nat_eq b.relation.n r.n
 
--- the relation of a case has an earlier case, but is not that of the case just before
-abbrev pub is_out_of_group : List Bulk → ℕ → Bulk → Bool
-is_out_of_group bulk k b = list_any (is_of_relation b.relation) (take k bulk) && not (is_of_relation b.relation (get_or bulk (k - 1) b))
+-- the relation has an earlier case, but is not that of the case just before
+abbrev pub is_out_of_group : List Bulk → RelId → Bool
+is_out_of_group earlier r =
+    list_any (is_of_relation r) earlier && not (option_map_or (is_of_relation r) (slice_get earlier (length earlier - 1)) false)
 
--- the columns of a case, and whether an earlier assignment has the same
-abbrev pub column_checks : SystemPlace → List Assign → List Check
-column_checks p assigns =
-    for_each (λ k (a : Assign). check p Twice (list_any (λ (earlier : Assign). nat_eq earlier.column a.column) (take k assigns)) ∷ []) assigns
+-- whether an earlier assignment of a case has the same column
+abbrev pub column_checks : SystemPlace → List Assign → ℕ → Assign → List Check
+column_checks p assigns k a = check p Twice (list_any (λ (earlier : Assign). nat_eq earlier.column a.column) (take k assigns)) ∷ []
 
 abbrev pub case_checks : ShapeParts → ℕ → Transition → ℕ → Bulk → List Check
 case_checks shape n t k b =
     check (place.Bulk n k) Limit (nat_le 8 k || nat_lt 16 (length b.condition))
     ∷ check (place.Bulk n k) Range (not (are_known_relations shape (b.relation ∷ [])))
-    ∷ literal_checks shape (place.Bulk n k) (bulk_rows t b) t.params (b.condition ++ map (assign_literal t) b.assigns)
-    ++ check (place.Bulk n k) Twice (is_out_of_group t.bulk k b)
-    ∷ column_checks (place.Bulk n k) b.assigns
+    ∷ literal_checks shape (place.Bulk n k) (bulk_rows t b) t.params (case_literals (length t.rows) b)
+    ++ check (place.Bulk n k) Twice (is_out_of_group (take k t.bulk) b.relation)
+    ∷ for_each (column_checks (place.Bulk n k) b.assigns) b.assigns
 
 -- a transition: itself, its guard, its updates, its bulk cases
 abbrev pub transition_checks : ShapeParts → ℕ → Transition → List Check

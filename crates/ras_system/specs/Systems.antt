@@ -1,5 +1,5 @@
 -- What a relational artifact system is.
-use Rattle.std.specs.Prelude.{◌≡◌, ◌≢◌, ℕ, ◌<◌, true, List, [], ◌∷◌, ◌++◌, length, slice_get, Option, Some, All, AllPairs}
+use Rattle.std.specs.Prelude.{◌≡◌, ◌≢◌, ℕ, ◌<◌, true, List, [], ◌∷◌, ◌++◌, map, length, slice_get, Option, Some, All, AllPairs}
 use Rattle.ras_logic.specs.declared.ids.SortId.{SortId}
 use Rattle.ras_logic.specs.declared.ids.ConstId.{ConstId}
 use Rattle.ras_logic.specs.declared.ids.RelId.{RelId}
@@ -43,13 +43,17 @@ UpdateFits shape rows params u = LiteralFits shape rows params (update_literal u
 abbrev pub bulk_rows : Transition → Bulk → List RelId
 bulk_rows t b = t.rows ++ b.relation ∷ []
 
--- a column of the updated row and its term as the two sides of a literal
-abbrev pub assign_literal : Transition → Assign → Literal
-assign_literal t a = Equal (base_term (base.Cell (length t.rows) a.column)) a.term true
+-- a column of the row of this number and its term as the two sides of a literal
+abbrev pub assign_literal : ℕ → Assign → Literal
+assign_literal row a = Equal (base_term (base.Cell row a.column)) a.term true
+
+-- the literals of a case: its condition, then its assignments to the row of this number
+abbrev pub case_literals : ℕ → Bulk → List Literal
+case_literals row b = b.condition ++ map (assign_literal row) b.assigns
 
 -- a column of the updated row and its term have one sort
 abbrev pub AssignFits : ShapeParts → Transition → Bulk → Assign → Type 0
-AssignFits shape t b a = LiteralFits shape (bulk_rows t b) t.params (assign_literal t a)
+AssignFits shape t b a = LiteralFits shape (bulk_rows t b) t.params (assign_literal (length t.rows) a)
 
 -- a bulk case: its condition and its terms fit, and no column is assigned twice
 pub record BulkFits (shape : ShapeParts) (t : Transition) (b : Bulk) : Type 0 where

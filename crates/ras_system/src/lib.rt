@@ -4,6 +4,7 @@
 #![tactic(auto)]
 
 mod bulk;
+mod checks;
 mod choice;
 mod law;
 mod state;
@@ -14,7 +15,9 @@ mod update;
 
 pub use bulk::{Assign, Bulk};
 pub use choice::Choice;
-pub use law::{a_good_evidence_suffices, an_invariant_suffices};
+pub use law::{
+    a_good_evidence_suffices, an_invariant_suffices, no_fault_is_first_exactly_in_a_system,
+};
 pub use state::State;
 pub use system::System;
 pub use system_fault::{SystemFault, SystemKind, SystemPlace};
