@@ -1,0 +1,6 @@
+mod Padding
+mod Tables
+pub mod Fronts
+mod Reaching
+mod Unique
+mod Order
