@@ -1,0 +1,9 @@
+pub mod ListTests
+pub mod DataTests
+pub mod StateTests
+pub mod SystemTests
+pub mod Cycles
+pub mod Facts
+pub mod Refused
+pub mod Journeys
+pub mod GoodEvidence

@@ -1,0 +1,5 @@
+pub mod Words
+pub mod Hiring
+pub mod Desk
+pub mod Small
+pub mod Depot
