@@ -72,3 +72,6 @@ second = (
 
 pub not_the_first : IsSchemaFault parts (Cycle (function 0)) → ⊥
 not_the_first h = no_cycle there two_sorts h.3.closed
+
+pub not_later : IsSchemaFault (record { sorts = 2; functions = there ∷ and_back ∷ total 1 1 ∷ []; constants = [] }) (Cycle (function 2)) → ⊥
+not_later h = h.3.before (there, (and_back ∷ []), round, refl)

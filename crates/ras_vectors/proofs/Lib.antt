@@ -5,5 +5,5 @@ pub mod SystemTests
 pub mod Cycles
 pub mod Facts
 pub mod Refused
-pub mod Journeys
+pub mod Violations
 pub mod GoodEvidence

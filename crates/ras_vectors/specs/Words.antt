@@ -13,6 +13,8 @@ use Rattle.ras_logic.specs.declared.problem.Problem.{Problem}
 use Rattle.ras_logic.specs.declared.raw_db.RawDb.{RawDb}
 use Rattle.ras_logic.specs.declared.tree.Tree.{Tree}
 use Rattle.ras_logic.specs.declared.tree.Node.{Node}
+use Rattle.ras_logic.specs.Schemas.{SchemaParts}
+use Rattle.ras_logic.specs.Shapes.{ShapeParts}
 use Rattle.ras_logic.specs.Terms.{base_term}
 use Rattle.ras_system.specs.declared.update.Target.TheVariants as target
 use Rattle.ras_system.specs.declared.update.Update.{Update}
@@ -38,6 +40,13 @@ total source target = record { source = sort source; target = sort target; total
 
 abbrev pub nullable : ℕ → ℕ → FunDecl
 nullable source target = record { source = sort source; target = sort target; total = false }
+
+abbrev pub schema_of : ℕ → List FunDecl → List SortId → SchemaParts
+schema_of sorts functions constants = record { sorts = sorts; functions = functions; constants = constants }
+
+-- variables and relations over three sorts
+abbrev pub shape_of : List SortId → List (List SortId) → ShapeParts
+shape_of vars relations = record { schema = schema_of 3 [] []; vars = vars; relations = relations }
 
 -- an artifact variable, a cell of a named row, a data parameter
 abbrev pub var : ℕ → Term

@@ -2,9 +2,11 @@
 //! function has an empty body, and its contract holds what is so, and what is not.
 #![tactic(auto)]
 
+mod calls;
 mod clashes;
 mod databases;
 mod evidence;
+mod faults;
 mod preimages;
 mod runs;
 mod schemas;
@@ -12,6 +14,7 @@ mod states;
 mod systems;
 mod terms;
 
+pub use calls::{goal_fits, goal_is_foreign};
 pub use clashes::{
     facts_learned_later, facts_that_clash, facts_that_hold_together, terms_of_literals,
 };
@@ -19,6 +22,10 @@ pub use databases::{databases_that_do_not_extend, good_databases, larger_databas
 pub use evidence::{
     broken_trees, closed_trees, evidence_that_is_not_good, good_evidence, splits_under_other_rows,
     what_has_to_be_refuted,
+};
+pub use faults::{
+    counts_of_a_schema_beyond_their_limits, faults_of_a_shape, functions_that_close_a_cycle,
+    literals_of_no_cube, sorts_of_a_schema_that_do_not_exist,
 };
 pub use preimages::{
     a_preimage_by_bulk_cases, a_preimage_by_bulk_cases_and_functions, a_preimage_by_failing_cases,

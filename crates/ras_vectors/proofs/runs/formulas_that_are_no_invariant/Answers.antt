@@ -8,7 +8,7 @@ use Rattle.ras_vectors.specs.Hiring.{careless, one_job, one_row, wrong_owner}
 use Rattle.ras_vectors.specs.Small.{two, b_to_c, three_elements, is_b, is_c, x}
 use Rattle.ras_vectors.proofs.DataTests.{is_database-passed}
 use Rattle.ras_vectors.proofs.StateTests.{is_state-passed, meets-passed, may_step-passed}
-use Rattle.ras_vectors.proofs.Journeys.{unset_violation}
+use Rattle.ras_vectors.proofs.Violations.{unset_violation}
 use Rattle.ras_vectors.proofs.runs.formulas_that_are_no_invariant.Goals as goal
 
 -- a state that meets one of no formulas, and one of one formula

@@ -1,4 +1,4 @@
-use Rattle.ras_vectors.proofs.Journeys.{first, second, third, desk_run}
+use Rattle.ras_vectors.proofs.Violations.{first, second, third, desk_run}
 use Rattle.ras_vectors.proofs.runs.the_steps_of_a_run.Goals as goal
 
 pub returns-clause-first : goal.returns-clause-first

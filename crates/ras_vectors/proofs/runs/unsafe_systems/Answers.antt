@@ -1,4 +1,4 @@
-use Rattle.ras_vectors.proofs.Journeys.{careless_violation, desk_violation, unset_violation}
+use Rattle.ras_vectors.proofs.Violations.{careless_violation, desk_violation, unset_violation}
 use Rattle.ras_vectors.proofs.runs.unsafe_systems.Goals as goal
 
 pub returns : goal.returns

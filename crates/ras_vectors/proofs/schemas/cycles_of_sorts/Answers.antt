@@ -1,7 +1,7 @@
 use Rattle.std.proofs.Common.{[], ◌∷◌, refl}
 use Rattle.ras_vectors.specs.Words.{total, nullable}
 use Rattle.ras_vectors.proofs.DataTests.{is_schema-passed}
-use Rattle.ras_vectors.proofs.Cycles.{both_ways, to_itself, second, not_the_first}
+use Rattle.ras_vectors.proofs.Cycles.{both_ways, to_itself}
 use Rattle.ras_vectors.proofs.schemas.cycles_of_sorts.Goals as goal
 
 pub returns-clause-both_ways : goal.returns-clause-both_ways
@@ -12,9 +12,3 @@ returns-clause-itself c = to_itself
 
 pub returns-clause-two_ways_to_one : goal.returns-clause-two_ways_to_one
 returns-clause-two_ways_to_one c = (is_schema-passed (record { sorts = 3; functions = total 0 2 ∷ total 0 2 ∷ nullable 1 2 ∷ []; constants = [] }) refl).acyclic
-
-pub returns-clause-second : goal.returns-clause-second
-returns-clause-second c = second
-
-pub returns-clause-not_the_first : goal.returns-clause-not_the_first
-returns-clause-not_the_first c = not_the_first
