@@ -1,0 +1,171 @@
+-- Without a clash there are a database and values in which the facts hold.
+use Rattle.std.proofs.Common.{◌≡◌, ◌≢◌, ℕ, zero, suc, ◌+◌, ◌<◌, List, [], ◌∷◌, length, get_or, cond, refl, sym, ◌∙◌, ap, subst, arith, ◌⊎◌, inl, inr, ⊎_elim}
+use Rattle.std.specs.Prelude.{slice_get, Option, Some, None}
+use Rattle.std.proofs.lemmas.Option.{slice_get_within}
+use Rattle.ras_logic.specs.declared.ids.FunId.{FunId}
+use Rattle.ras_logic.specs.declared.ids.VarId.{VarId}
+use Rattle.ras_logic.specs.declared.ids.RelId.{RelId}
+use Rattle.ras_logic.specs.declared.ids.SortId.{SortId}
+use Rattle.ras_logic.specs.declared.ids.ConstId.{ConstId}
+use Rattle.ras_logic.specs.declared.function.FunDecl.{FunDecl}
+use Rattle.ras_logic.specs.declared.raw_db.RawDb.{RawDb}
+use Rattle.ras_logic.specs.declared.values.Values.{Values}
+use Rattle.ras_logic.specs.declared.term.Base.{Base}
+use Rattle.ras_logic.specs.declared.term.Base.TheVariants.{Var, Cell, Constant, Undef, Param}
+use Rattle.ras_logic.specs.declared.term.Term.{Term}
+use Rattle.ras_closure.specs.declared.link.Link.{Link}
+use Rattle.ras_closure.specs.declared.link.Link.TheVariants.{Base as BaseLink, Image}
+use Rattle.ras_logic.specs.Terms.{base_term}
+use Rattle.ras_closure.specs.TableParts.{TableParts}
+use Rattle.ras_closure.specs.Models.{IsAt, number_of, room_of}
+use Rattle.ras_closure.specs.Saturation.{IsTable}
+use Rattle.ras_closure.specs.Closures.{ClosureParts, IsClosure, IsFactOf}
+use Rattle.ras_closure.specs.ModelParts.{IsImageAt, IsImageIn, IsTableOf, IsElementOf, IsUsual, IsModelOf}
+use Rattle.ras_closure.proofs.Images.{image-found, image-none}
+use Rattle.ras_closure.proofs.Assembly.{model-db, model_values, model-of}
+
+-- a list of what there is for each number
+choose : {X : Type 0} (P : ℕ → X → Type 0) (d : X) (n : ℕ) → ((k : ℕ) → k < n → (y : X) × P k y) → (ys : List X) × (length ys ≡ n) × ((k : ℕ) → k < n → P k (get_or ys k d))
+choose P d zero f = ([], refl, λ k lt. absurd (omega arith))
+choose {X = X} P d (suc n) f =
+    let first = f 0 (omega arith) in
+    let rest = choose (λ k y. P (suc k) y) d n (λ k lt. f (suc k) (omega arith)) in
+    (first.0 ∷ rest.0, omega (arith, rest.1), λ k lt. each first.0 first.1 rest.0 rest.2 k lt)
+  where
+    each : (y : X) → P 0 y → (ys : List X) → ((k : ℕ) → k < n → P (suc k) (get_or ys k d)) → (k : ℕ) → k < suc n → P k (get_or (y ∷ ys) k d)
+    each y p ys q zero lt = p
+    each y p ys q (suc k) lt = q k (omega arith)
+
+same_or : (a b : ℕ) → (a ≡ b) ⊎ (a ≢ b)
+same_or a b = grind arith
+
+-- the first number of which it holds, or none
+search_to : (P : ℕ → Type 0) → ((k : ℕ) → P k ⊎ (P k → ⊥)) → (n : ℕ) → ((k : ℕ) × (k < n) × P k) ⊎ ((k : ℕ) → k < n → P k → ⊥)
+search_to P decide zero = inr (λ k lt. absurd (omega arith))
+search_to P decide (suc n) =
+    ⊎_elim (λ (h : (k : ℕ) × (k < n) × P k). inl (h.0, omega (arith, h.1), h.2))
+    (λ (none : (k : ℕ) → k < n → P k → ⊥). ⊎_elim (λ (h : P n). inl (n, omega arith, h)) (λ (no_here : P n → ⊥). inr (λ k lt p. last none no_here k lt p (same_or k n))) (decide n)) (search_to P decide n)
+  where
+    last : ((k : ℕ) → k < n → P k → ⊥) → (P n → ⊥) → (k : ℕ) → k < suc n → P k → (k ≡ n) ⊎ (k ≢ n) → ⊥
+    last none no_here k lt p (inl e) = no_here (subst P e p)
+    last none no_here k lt p (inr e) = none k (omega arith) p
+
+base_same : (a b : Base) → (a ≡ b) ⊎ (a ≢ b)
+base_same (Var x) (Var y) = ⊎_elim (λ (e : x.n ≡ y.n). inl (ap (λ (m : ℕ). Var (record { n = m })) e)) (λ (h : x.n ≢ y.n). inr (λ (e : Var x ≡ Var y). let r : x ≡ y = cc in h (ap (λ (q : VarId). q.n) r))) (same_or x.n y.n)
+base_same (Cell r c) (Cell s d) =
+    ⊎_elim (λ (e : r ≡ s). ⊎_elim (λ (g : c ≡ d). inl (cc)) (λ (h : c ≢ d). inr (λ (q : Cell r c ≡ Cell s d). h (cc))) (same_or c d)) (λ (h : r ≢ s). inr (λ (q : Cell r c ≡ Cell s d). h (cc))) (same_or r s)
+base_same (Constant x) (Constant y) = ⊎_elim (λ (e : x.n ≡ y.n). inl (ap (λ (m : ℕ). Constant (record { n = m })) e)) (λ (h : x.n ≢ y.n). inr (λ (e : Constant x ≡ Constant y). let r : x ≡ y = cc in h (ap (λ (q : ConstId). q.n) r))) (same_or x.n y.n)
+base_same (Undef x) (Undef y) = ⊎_elim (λ (e : x.n ≡ y.n). inl (ap (λ (m : ℕ). Undef (record { n = m })) e)) (λ (h : x.n ≢ y.n). inr (λ (e : Undef x ≡ Undef y). let r : x ≡ y = cc in h (ap (λ (q : SortId). q.n) r))) (same_or x.n y.n)
+base_same (Param p) (Param q) = ⊎_elim (λ (e : p ≡ q). inl (cc)) (λ (h : p ≢ q). inr (λ (e : Param p ≡ Param q). h (cc))) (same_or p q)
+base_same a b = inr (λ (e : a ≡ b). cc)
+
+term_is_base : (t : Term) (b : Base) → (t ≡ base_term b) ⊎ (t ≢ base_term b)
+term_is_base t b = go t.path refl
+  where
+    go : (p : List FunId) → t.path ≡ p → (t ≡ base_term b) ⊎ (t ≢ base_term b)
+    go [] e = ⊎_elim (λ (g : t.base ≡ b). inl (whole e g)) (λ (h : t.base ≢ b). inr (λ (q : t ≡ base_term b). h (ap (λ (u : Term). u.base) q))) (base_same t.base b)
+      where
+        whole : t.path ≡ [] → t.base ≡ b → t ≡ base_term b
+        whole e g = ap (λ (p : List FunId). let u : Term = record { base = t.base; path = p } in u) e ∙ ap base_term g
+    go (f ∷ p) e = inr (λ (q : t ≡ base_term b). let k : f ∷ p ≡ [] = sym e ∙ ap (λ (u : Term). u.path) q in cc)
+
+at_or : (terms : List Term) (b : Base) (k : ℕ) → IsAt terms k (base_term b) ⊎ (IsAt terms k (base_term b) → ⊥)
+at_or terms b k = go (slice_get terms k) refl
+  where
+    go : (o : Option Term) → slice_get terms k ≡ o → IsAt terms k (base_term b) ⊎ (IsAt terms k (base_term b) → ⊥)
+    go None e = inr (λ h. none (sym e ∙ h))
+      where
+        none : None ≡ Some (base_term b) → ⊥
+        none h = cc
+    go (Some t) e = ⊎_elim (λ (g : t ≡ base_term b). inl (e ∙ ap (λ (u : Term). Some u) g)) (λ (h : t ≢ base_term b). inr (λ q. h (some_same (sym e ∙ q)))) (term_is_base t b)
+      where
+        some_same : {u w : Term} → Some u ≡ Some w → u ≡ w
+        some_same h = cc
+
+element-of : (t : TableParts) (classes : List ℕ) (b : Base) → (x : ℕ) × IsElementOf t classes b x
+element-of t classes b =
+    ⊎_elim (λ (h : (k : ℕ) × (k < length t.terms) × IsAt t.terms k (base_term b)). (number_of t.shape.schema.sorts classes h.0, inl (h.0, h.2, refl)))
+    (λ (none : (k : ℕ) → k < length t.terms → IsAt t.terms k (base_term b) → ⊥). (0, inr (λ i at. none i (slice_get_within t.terms i (base_term b) at) at, refl)))
+    (search_to (λ k. IsAt t.terms k (base_term b)) (at_or t.terms b) (length t.terms))
+
+image_at_or : (t : TableParts) (classes : List ℕ) (f : FunId) (x k : ℕ) → IsImageAt t classes f x k ⊎ (IsImageAt t classes f x k → ⊥)
+image_at_or t classes f x k = go (slice_get t.links k) refl
+  where
+    go : (o : Option Link) → slice_get t.links k ≡ o → IsImageAt t classes f x k ⊎ (IsImageAt t classes f x k → ⊥)
+    go None e = inr (λ h. none h.0 (sym e ∙ h.1))
+      where
+        none : (of : ℕ) → None ≡ Some (Image of f) → ⊥
+        none of h = cc
+    go (Some BaseLink) e = inr (λ h. none h.0 (sym e ∙ h.1))
+      where
+        none : (of : ℕ) → Some BaseLink ≡ Some (Image of f) → ⊥
+        none of h = cc
+    go (Some (Image of g)) e =
+        ⊎_elim (λ (same : g.n ≡ f.n). ⊎_elim (λ (number : number_of t.shape.schema.sorts classes of ≡ x). inl (of, e ∙ ap (λ (m : ℕ). Some (Image of (record { n = m }))) same, number))
+        (λ (differ : number_of t.shape.schema.sorts classes of ≢ x). inr (λ h. differ (ap (number_of t.shape.schema.sorts classes) (of_same h.0 (sym e ∙ h.1)) ∙ h.2))) (same_or (number_of t.shape.schema.sorts classes of) x))
+        (λ (differ : g.n ≢ f.n). inr (λ h. differ (ap (λ (q : FunId). q.n) (function_same h.0 (sym e ∙ h.1))))) (same_or g.n f.n)
+      where
+        of_same : (m : ℕ) → Some (Image of g) ≡ Some (Image m f) → of ≡ m
+        of_same m h = cc
+
+        function_same : (m : ℕ) → Some (Image of g) ≡ Some (Image m f) → g ≡ f
+        function_same m h = cc
+
+image-of : (t : TableParts) → IsTable t → (classes : List ℕ) (f : FunId) (decl : FunDecl) (x : ℕ) → (y : ℕ) × IsImageIn t classes f decl x y
+image-of t table classes f decl x =
+    ⊎_elim (λ (h : (k : ℕ) × (k < length t.terms) × IsImageAt t classes f x k). (number_of t.shape.schema.sorts classes h.0, image-found t table classes f decl x h.0 (number_of t.shape.schema.sorts classes h.0) h.2 refl))
+    (λ (none : (k : ℕ) → k < length t.terms → IsImageAt t classes f x k → ⊥).
+    (cond decl.total (room_of t.shape.schema.sorts t.terms) 0, image-none t table classes f decl x (length t.terms) refl none (cond decl.total (room_of t.shape.schema.sorts t.terms) 0) refl))
+    (search_to (IsImageAt t classes f x) (image_at_or t classes f x) (length t.terms))
+
+some_same : {X : Type 0} (x y : X) → Some x ≡ Some y → x ≡ y
+some_same x y h = cc
+
+table-of : (t : TableParts) → IsTable t → (classes : List ℕ) (f : FunId) (decl : FunDecl) → (ys : List ℕ) × IsTableOf t classes f decl ys
+table-of t table classes f decl =
+    let c = choose (λ k y. IsImageIn t classes f decl (k + 1) y) 0 (room_of t.shape.schema.sorts t.terms) (λ k lt. image-of t table classes f decl (k + 1)) in
+    (c.0, record { long = c.1; images = λ k lt. c.2 k (rw (← c.1) lt) })
+
+abbrev IsCellRow : TableParts → List ℕ → ℕ → RelId → List ℕ → Type 0
+IsCellRow t classes k r ys = (length ys ≡ length (get_or t.shape.relations r.n [])) × ((m : ℕ) → m < length (get_or t.shape.relations r.n []) → IsElementOf t classes (Cell k m) (get_or ys m 0))
+
+-- without a clash the facts hold somewhere
+pub a_model : (c : ClosureParts) → IsTable c.table → IsClosure c → c.clash ≡ None → IsUsual c.table → (d : RawDb) × (v : Values) × IsModelOf c.table (IsFactOf c) c.classes d v
+a_model c table closure none usual =
+    let t : TableParts = c.table in
+    let sizes = choose (λ (k y : ℕ). y ≡ room_of t.shape.schema.sorts t.terms) 0 t.shape.schema.sorts (λ k lt. (room_of t.shape.schema.sorts t.terms, refl)) in
+    let tables = choose {X = List ℕ} (λ k ys. (decl : FunDecl) → slice_get t.shape.schema.functions k ≡ Some decl → IsTableOf t c.classes (record { n = k }) decl ys) [] (length t.shape.schema.functions)
+    (λ k lt. table_at k (slice_get t.shape.schema.functions k) refl) in
+    let constants = choose (λ (k y : ℕ). y ≡ number_of t.shape.schema.sorts c.classes (t.shape.schema.sorts + k)) 0 (length t.shape.schema.constants) (λ k lt. (number_of t.shape.schema.sorts c.classes (t.shape.schema.sorts + k), refl)) in
+    let vars = choose (λ k y. IsElementOf t c.classes (Var (record { n = k })) y) 0 (length t.shape.vars) (λ k lt. element-of t c.classes (Var (record { n = k }))) in
+    let rows = choose {X = List ℕ} (λ k ys. (r : RelId) → slice_get t.problem.rows k ≡ Some r → IsCellRow c.table c.classes k r ys) [] (length t.problem.rows)
+    (λ k lt. row_at k (slice_get t.problem.rows k) refl) in
+    let params = choose (λ k y. IsElementOf t c.classes (Param k) y) 0 (length t.problem.params) (λ k lt. element-of t c.classes (Param k)) in (
+      record { sizes = sizes.0; tables = tables.0; constants = constants.0 },
+      record { vars = vars.0; rows = rows.0; params = params.0 },
+      model-of c table closure none usual (record { sizes = sizes.0; tables = tables.0; constants = constants.0 }) (record { vars = vars.0; rows = rows.0; params = params.0 })
+          (model-db t c.classes sizes.0 tables.0 constants.0 (sizes.1, λ k lt. sizes.2 k (rw (← sizes.1) lt)) tables.1
+          (record { each = λ f decl lt known. tables.2 f.n (rw (← tables.1) lt) decl known }) (constants.1, λ k lt. constants.2 k (rw (← constants.1) lt)))
+          (model_values t c.classes vars.0 rows.0 params.0 (vars.1, λ x lt. vars.2 x.n (rw (← vars.1) lt)) rows.1
+          (record { lengths = λ k r lt known. (rows.2 k (rw (← rows.1) lt) r known).0; cells = λ k m r lt known in_row. (rows.2 k (rw (← rows.1) lt) r known).1 m in_row })
+          (params.1, λ k lt. params.2 k (rw (← params.1) lt))),
+    )
+  where
+    table_at : (k : ℕ) (o : Option FunDecl) → slice_get c.table.shape.schema.functions k ≡ o
+        → (ys : List ℕ) × ((decl : FunDecl) → slice_get c.table.shape.schema.functions k ≡ Some decl → IsTableOf c.table c.classes (record { n = k }) decl ys)
+    table_at k None e = ([], λ decl h. absurd (nothing decl (sym e ∙ h)))
+      where
+        nothing : (decl : FunDecl) → None ≡ Some decl → ⊥
+        nothing decl h = cc
+    table_at k (Some decl) e =
+        let y = table-of c.table table c.classes (record { n = k }) decl in
+        (y.0, λ other h. subst (λ (q : FunDecl). IsTableOf c.table c.classes (record { n = k }) q y.0) (some_same decl other (sym e ∙ h)) y.1)
+
+    row_at : (k : ℕ) (o : Option RelId) → slice_get c.table.problem.rows k ≡ o → (ys : List ℕ) × ((r : RelId) → slice_get c.table.problem.rows k ≡ Some r → IsCellRow c.table c.classes k r ys)
+    row_at k None e = ([], λ r h. absurd (nothing r (sym e ∙ h)))
+      where
+        nothing : (r : RelId) → None ≡ Some r → ⊥
+        nothing r h = cc
+    row_at k (Some r) e =
+        let y = choose (λ m x. IsElementOf c.table c.classes (Cell k m) x) 0 (length (get_or c.table.shape.relations r.n [])) (λ m lt. element-of c.table c.classes (Cell k m)) in
+        (y.0, λ other h. subst (λ (q : RelId). IsCellRow c.table c.classes k q y.0) (some_same r other (sym e ∙ h)) (y.1, y.2))

@@ -1,0 +1,128 @@
+ghost use Rattle.std.specs.Prelude.{◌≡◌, ℕ, ◌+◌, ◌<◌, length, slice_get, Some, MatchOption, IfOk, All};
+ghost use Rattle.ras_logic.specs.Formulas.{LiteralFits};
+ghost use Rattle.ras_closure.specs.Models.{IsAt};
+ghost use Rattle.ras_closure.specs.Saturation.{IsTable, rigid_count};
+
+use crate::building::{place_fixed, place_literals};
+use crate::link::Link;
+use ras_logic::{FunDecl, FunId, List, Plain, Problem, Shape, Term};
+use std::alloc::{AllocError, Global};
+use std::marker::Model;
+
+/// The terms of a problem, by number.
+#[derive(Debug, Drop)]
+pub struct TermTable {
+    shape: Shape,
+    problem: Problem,
+    terms: List<Term>,
+    links: List<Link>,
+}
+
+impl Model for TermTable {
+    ghost use Rattle.ras_closure.specs.TableParts.{TableParts};
+
+    ghost Value = { TableParts };
+
+    ghost view = { λ t. record { shape = t.shape; problem = t.problem; terms = t.terms; links = t.links } };
+
+    ghost use Rattle.ras_closure.specs.Saturation.{IsTable};
+
+    ghost invariant = { λ t. IsTable (record { shape = t.shape; problem = t.problem; terms = t.terms; links = t.links }) };
+}
+
+impl TermTable {
+    /// The terms of a problem with their prefixes, after every sort's undef and the constants.
+    pub fn new(alloc: Global, shape: &Shape, problem: &Problem) -> Result<TermTable, AllocError>
+        requires fit { All (LiteralFits shape.now problem.now.rows problem.now.params) problem.now.literals }
+        requires few { length shape.now.schema.constants < 65536 }
+        ensures shape { IfOk result (λ t. t.shape ≡ shape.now) }
+        ensures problem { IfOk result (λ t. t.problem ≡ problem.now) }
+    {
+        shape.schema().known();
+        let mut terms = List::new(alloc);
+        let mut links = List::new(alloc);
+        place_fixed(alloc, shape.schema(), problem, &mut terms, &mut links)?;
+        place_literals(alloc, shape, problem, &mut terms, &mut links)?;
+        let shape = shape.copy(alloc)?;
+        let problem = problem.copy(alloc)?;
+        Ok(TermTable {
+            shape,
+            problem,
+            terms,
+            links,
+        })
+    }
+
+    pub fn known(&self)
+        ensures { IsTable self.now }
+    {
+        let _ = &self.links;
+    }
+
+    pub fn links(&self) -> &[Link]
+        ensures { result.now ≡ self.now.links }
+    {
+        self.links.as_slice()
+    }
+
+    pub fn functions(&self) -> &[FunDecl]
+        ensures { result.now ≡ self.now.shape.schema.functions }
+    {
+        self.shape.schema().functions()
+    }
+
+    pub fn function(&self, function: FunId) -> FunDecl
+        requires { function.n < length self.now.shape.schema.functions }
+        ensures known { slice_get self.now.shape.schema.functions function.n ≡ Some result }
+        ensures source { result.source.n < length self.now.terms }
+        ensures target { result.target.n < length self.now.terms }
+    {
+        self.known();
+        self.shape.schema().function(function)
+    }
+
+    /// How many terms are undef or a constant: the first ones.
+    pub fn rigid_count(&self) -> usize
+        ensures { result ≡ rigid_count self.now }
+    {
+        self.shape.schema().sort_count() as usize + self.shape.schema().constants().len()
+    }
+
+    pub fn sort_count(&self) -> usize
+        ensures { result ≡ self.now.shape.schema.sorts }
+    {
+        self.shape.schema().sort_count() as usize
+    }
+
+    pub fn shape(&self) -> &Shape
+        ensures { result.now ≡ self.now.shape }
+    {
+        &self.shape
+    }
+
+    pub fn problem(&self) -> &Problem
+        ensures { result.now ≡ self.now.problem }
+    {
+        &self.problem
+    }
+
+    /// How many terms there are.
+    pub fn len(&self) -> usize
+        ensures { result ≡ length self.now.terms }
+    {
+        self.terms.len()
+    }
+
+    /// The number of a term.
+    pub fn find(&self, term: &Term) -> Option<usize>
+        ensures { MatchOption result ((i : ℕ) → IsAt self.now.terms i term.now → ⊥) (λ i. IsAt self.now.terms i term.now) }
+    {
+        let terms = self.terms.as_slice();
+        for i in 0..terms.len() {
+            if terms[i].equal(term) {
+                return Some(i);
+            }
+        }
+        None
+    }
+}
