@@ -9,7 +9,8 @@ use Rattle.ras_logic.specs.declared.literal.Literal.TheVariants.{Equal}
 use Rattle.ras_logic.specs.Schemas.{SchemaParts}
 use Rattle.ras_logic.specs.Terms.{undef_term, image_term}
 use Rattle.ras_logic.specs.Clashes.{IsTerm, Together, itself, back, through, stated, same_images, image_of_undef, only_undef}
-use Rattle.ras_closure.specs.Models.{class, IsAt, AreTerms, AreClosed}
+use Rattle.ras_closure.specs.Classes.{class, AreClosed}
+use Rattle.ras_closure.specs.Numbered.{IsAt, AreTerms}
 use Rattle.ras_closure.proofs.Prefixes.{parent-term}
 
 module _ (schema : SchemaParts) (literals : List Literal) (IsFact : Literal → Type 0) (terms : List Term) (classes : List ℕ)

@@ -16,13 +16,15 @@ use Rattle.ras_logic.specs.declared.term.Term.{Term}
 use Rattle.ras_closure.specs.declared.link.Link.{Link}
 use Rattle.ras_closure.specs.declared.link.Link.TheVariants.{Base as BaseLink, Image}
 use Rattle.ras_logic.specs.Terms.{base_term}
-use Rattle.ras_closure.specs.TableParts.{TableParts}
-use Rattle.ras_closure.specs.Models.{IsAt, number_of, room_of}
-use Rattle.ras_closure.specs.Saturation.{IsTable}
-use Rattle.ras_closure.specs.Closures.{ClosureParts, IsClosure, IsFactOf}
-use Rattle.ras_closure.specs.ModelParts.{IsImageAt, IsImageIn, IsTableOf, IsElementOf, IsUsual, IsModelOf}
+use Rattle.ras_closure.specs.Numbered.{TableParts, IsAt, IsTable}
+use Rattle.ras_closure.specs.Closures.{ClosureParts, IsClosure, IsFactOf, HasNoModel, IsModelOf}
+use Rattle.ras_closure.specs.Models.{IsImage, IsTableOf, IsElementOf, AreElementsOf, variable, number_of, room_of}
+use Rattle.ras_closure.specs.ModelParts.{IsImageAt}
 use Rattle.ras_closure.proofs.Images.{image-found, image-none}
-use Rattle.ras_closure.proofs.Assembly.{model-db, model_values, model-of}
+use Rattle.ras_closure.proofs.Numbers.{uniform-numbers}
+use Rattle.ras_closure.proofs.Steps.{below}
+use Rattle.ras_closure.proofs.Laws.{consistent}
+use Rattle.ras_closure.proofs.Assembly.{model-of}
 
 -- a list of what there is for each number
 choose : {X : Type 0} (P : ℕ → X → Type 0) (d : X) (n : ℕ) → ((k : ℕ) → k < n → (y : X) × P k y) → (ys : List X) × (length ys ≡ n) × ((k : ℕ) → k < n → P k (get_or ys k d))
@@ -82,90 +84,117 @@ at_or terms b k = go (slice_get terms k) refl
         some_same : {u w : Term} → Some u ≡ Some w → u ≡ w
         some_same h = cc
 
-element-of : (t : TableParts) (classes : List ℕ) (b : Base) → (x : ℕ) × IsElementOf t classes b x
-element-of t classes b =
-    ⊎_elim (λ (h : (k : ℕ) × (k < length t.terms) × IsAt t.terms k (base_term b)). (number_of t.shape.schema.sorts classes h.0, inl (h.0, h.2, refl)))
-    (λ (none : (k : ℕ) → k < length t.terms → IsAt t.terms k (base_term b) → ⊥). (0, inr (λ i at. none i (slice_get_within t.terms i (base_term b) at) at, refl)))
-    (search_to (λ k. IsAt t.terms k (base_term b)) (at_or t.terms b) (length t.terms))
+element-of : (terms : List Term) (number : ℕ → ℕ) (b : Base) → (x : ℕ) × IsElementOf terms number b x
+element-of terms number b =
+    ⊎_elim (λ (h : (k : ℕ) × (k < length terms) × IsAt terms k (base_term b)). (number h.0, inl (h.0, h.2, refl)))
+    (λ (none : (k : ℕ) → k < length terms → IsAt terms k (base_term b) → ⊥). (0, inr (λ i at. none i (slice_get_within terms i (base_term b) at) at, refl)))
+    (search_to (λ k. IsAt terms k (base_term b)) (at_or terms b) (length terms))
 
-image_at_or : (t : TableParts) (classes : List ℕ) (f : FunId) (x k : ℕ) → IsImageAt t classes f x k ⊎ (IsImageAt t classes f x k → ⊥)
-image_at_or t classes f x k = go (slice_get t.links k) refl
-  where
-    go : (o : Option Link) → slice_get t.links k ≡ o → IsImageAt t classes f x k ⊎ (IsImageAt t classes f x k → ⊥)
-    go None e = inr (λ h. none h.0 (sym e ∙ h.1))
-      where
-        none : (of : ℕ) → None ≡ Some (Image of f) → ⊥
-        none of h = cc
-    go (Some BaseLink) e = inr (λ h. none h.0 (sym e ∙ h.1))
-      where
-        none : (of : ℕ) → Some BaseLink ≡ Some (Image of f) → ⊥
-        none of h = cc
-    go (Some (Image of g)) e =
-        ⊎_elim (λ (same : g.n ≡ f.n). ⊎_elim (λ (number : number_of t.shape.schema.sorts classes of ≡ x). inl (of, e ∙ ap (λ (m : ℕ). Some (Image of (record { n = m }))) same, number))
-        (λ (differ : number_of t.shape.schema.sorts classes of ≢ x). inr (λ h. differ (ap (number_of t.shape.schema.sorts classes) (of_same h.0 (sym e ∙ h.1)) ∙ h.2))) (same_or (number_of t.shape.schema.sorts classes of) x))
-        (λ (differ : g.n ≢ f.n). inr (λ h. differ (ap (λ (q : FunId). q.n) (function_same h.0 (sym e ∙ h.1))))) (same_or g.n f.n)
-      where
-        of_same : (m : ℕ) → Some (Image of g) ≡ Some (Image m f) → of ≡ m
-        of_same m h = cc
+elements-of : (terms : List Term) (number : ℕ → ℕ) (base : ℕ → Base) (count : ℕ) → (xs : List ℕ) × AreElementsOf terms number base count xs
+elements-of terms number base count =
+    let c = choose (λ k x. IsElementOf terms number (base k) x) 0 count (λ k lt. element-of terms number (base k)) in
+    (c.0, record { as_many = c.1; each = c.2 })
 
-        function_same : (m : ℕ) → Some (Image of g) ≡ Some (Image m f) → g ≡ f
-        function_same m h = cc
+module _ (t : TableParts) (table : IsTable t) (number : ℕ → ℕ) (size : SortId → ℕ) where
+  image_at_or : (f : FunId) (x k : ℕ) → IsImageAt t number f x k ⊎ (IsImageAt t number f x k → ⊥)
+  image_at_or f x k = go (slice_get t.links k) refl
+    where
+      go : (o : Option Link) → slice_get t.links k ≡ o → IsImageAt t number f x k ⊎ (IsImageAt t number f x k → ⊥)
+      go None e = inr (λ h. none h.of (sym e ∙ h.link))
+        where
+          none : (of : ℕ) → None ≡ Some (Image of f) → ⊥
+          none of h = cc
+      go (Some BaseLink) e = inr (λ h. none h.of (sym e ∙ h.link))
+        where
+          none : (of : ℕ) → Some BaseLink ≡ Some (Image of f) → ⊥
+          none of h = cc
+      go (Some (Image of g)) e =
+          ⊎_elim
+          (λ (same : g.n ≡ f.n).
+          ⊎_elim (λ (here : number of ≡ x). inl (record { of = of; link = e ∙ ap (λ (m : ℕ). Some (Image of (record { n = m }))) same; argument = here }))
+          (λ (differ : number of ≢ x). inr (λ h. differ (ap number (of_same h.of (sym e ∙ h.link)) ∙ h.argument))) (same_or (number of) x))
+          (λ (differ : g.n ≢ f.n). inr (λ h. differ (ap (λ (q : FunId). q.n) (function_same h.of (sym e ∙ h.link))))) (same_or g.n f.n)
+        where
+          of_same : (m : ℕ) → Some (Image of g) ≡ Some (Image m f) → of ≡ m
+          of_same m h = cc
 
-image-of : (t : TableParts) → IsTable t → (classes : List ℕ) (f : FunId) (decl : FunDecl) (x : ℕ) → (y : ℕ) × IsImageIn t classes f decl x y
-image-of t table classes f decl x =
-    ⊎_elim (λ (h : (k : ℕ) × (k < length t.terms) × IsImageAt t classes f x k). (number_of t.shape.schema.sorts classes h.0, image-found t table classes f decl x h.0 (number_of t.shape.schema.sorts classes h.0) h.2 refl))
-    (λ (none : (k : ℕ) → k < length t.terms → IsImageAt t classes f x k → ⊥).
-    (cond decl.total (room_of t.shape.schema.sorts t.terms) 0, image-none t table classes f decl x (length t.terms) refl none (cond decl.total (room_of t.shape.schema.sorts t.terms) 0) refl))
-    (search_to (IsImageAt t classes f x) (image_at_or t classes f x) (length t.terms))
+          function_same : (m : ℕ) → Some (Image of g) ≡ Some (Image m f) → g ≡ f
+          function_same m h = cc
 
-some_same : {X : Type 0} (x y : X) → Some x ≡ Some y → x ≡ y
-some_same x y h = cc
+  image-of : (f : FunId) (decl : FunDecl) (x : ℕ) → (y : ℕ) × IsImage t.terms number size f decl x y
+  image-of f decl x =
+      ⊎_elim (λ (h : (k : ℕ) × (k < length t.terms) × IsImageAt t number f x k). (number h.0, image-found t table number f x size decl h.0 (number h.0) h.2 refl))
+      (λ (none : (k : ℕ) → k < length t.terms → IsImageAt t number f x k → ⊥). (cond decl.total (size decl.target) 0, inr (image-none t table number f x none, refl)))
+      (search_to (IsImageAt t number f x) (image_at_or f x) (length t.terms))
 
-table-of : (t : TableParts) → IsTable t → (classes : List ℕ) (f : FunId) (decl : FunDecl) → (ys : List ℕ) × IsTableOf t classes f decl ys
-table-of t table classes f decl =
-    let c = choose (λ k y. IsImageIn t classes f decl (k + 1) y) 0 (room_of t.shape.schema.sorts t.terms) (λ k lt. image-of t table classes f decl (k + 1)) in
-    (c.0, record { long = c.1; images = λ k lt. c.2 k (rw (← c.1) lt) })
+  table-of : (f : FunId) (decl : FunDecl) → (ys : List ℕ) × IsTableOf t.terms number size f decl ys
+  table-of f decl =
+      let c = choose (λ k y. IsImage t.terms number size f decl (k + 1) y) 0 (size decl.source) (λ k lt. image-of f decl (k + 1)) in
+      (c.0, record { long = c.1; images = λ k lt. c.2 k (rw (← c.1) lt) })
 
-abbrev IsCellRow : TableParts → List ℕ → ℕ → RelId → List ℕ → Type 0
-IsCellRow t classes k r ys = (length ys ≡ length (get_or t.shape.relations r.n [])) × ((m : ℕ) → m < length (get_or t.shape.relations r.n []) → IsElementOf t classes (Cell k m) (get_or ys m 0))
+  table_at : (k : ℕ) (o : Option FunDecl) → slice_get t.shape.schema.functions k ≡ o
+      → (ys : List ℕ) × ((decl : FunDecl) → slice_get t.shape.schema.functions k ≡ Some decl → IsTableOf t.terms number size (record { n = k }) decl ys)
+  table_at k None e = ([], λ decl h. absurd (nothing decl (sym e ∙ h)))
+    where
+      nothing : (decl : FunDecl) → None ≡ Some decl → ⊥
+      nothing decl h = cc
+  table_at k (Some decl) e =
+      let y = table-of (record { n = k }) decl in
+      (y.0, λ other h. subst (λ (q : FunDecl). IsTableOf t.terms number size (record { n = k }) q y.0) (some_same decl other (sym e ∙ h)) y.1)
+    where
+      some_same : (x y : FunDecl) → Some x ≡ Some y → x ≡ y
+      some_same x y h = cc
+
+  abbrev IsRowOf : ℕ → List ℕ → Type 0
+  IsRowOf k ys = (r : RelId) → slice_get t.problem.rows k ≡ Some r → AreElementsOf t.terms number (Cell k) (length (get_or t.shape.relations r.n [])) ys
+
+  row_at : (k : ℕ) (o : Option RelId) → slice_get t.problem.rows k ≡ o → (ys : List ℕ) × IsRowOf k ys
+  row_at k None e = ([], λ r h. absurd (nothing r (sym e ∙ h)))
+    where
+      nothing : (r : RelId) → None ≡ Some r → ⊥
+      nothing r h = cc
+  row_at k (Some r) e =
+      let y = elements-of t.terms number (Cell k) (length (get_or t.shape.relations r.n [])) in
+      (y.0, λ other h. subst (λ (q : RelId). AreElementsOf t.terms number (Cell k) (length (get_or t.shape.relations q.n [])) y.0) (some_same r other (sym e ∙ h)) y.1)
+    where
+      some_same : (x y : RelId) → Some x ≡ Some y → x ≡ y
+      some_same x y h = cc
 
 -- without a clash the facts hold somewhere
-pub a_model : (c : ClosureParts) → IsTable c.table → IsClosure c → c.clash ≡ None → IsUsual c.table → (d : RawDb) × (v : Values) × IsModelOf c.table (IsFactOf c) c.classes d v
-a_model c table closure none usual =
-    let t : TableParts = c.table in
-    let sizes = choose (λ (k y : ℕ). y ≡ room_of t.shape.schema.sorts t.terms) 0 t.shape.schema.sorts (λ k lt. (room_of t.shape.schema.sorts t.terms, refl)) in
-    let tables = choose {X = List ℕ} (λ k ys. (decl : FunDecl) → slice_get t.shape.schema.functions k ≡ Some decl → IsTableOf t c.classes (record { n = k }) decl ys) [] (length t.shape.schema.functions)
-    (λ k lt. table_at k (slice_get t.shape.schema.functions k) refl) in
-    let constants = choose (λ (k y : ℕ). y ≡ number_of t.shape.schema.sorts c.classes (t.shape.schema.sorts + k)) 0 (length t.shape.schema.constants) (λ k lt. (number_of t.shape.schema.sorts c.classes (t.shape.schema.sorts + k), refl)) in
-    let vars = choose (λ k y. IsElementOf t c.classes (Var (record { n = k })) y) 0 (length t.shape.vars) (λ k lt. element-of t c.classes (Var (record { n = k }))) in
-    let rows = choose {X = List ℕ} (λ k ys. (r : RelId) → slice_get t.problem.rows k ≡ Some r → IsCellRow c.table c.classes k r ys) [] (length t.problem.rows)
-    (λ k lt. row_at k (slice_get t.problem.rows k) refl) in
-    let params = choose (λ k y. IsElementOf t c.classes (Param k) y) 0 (length t.problem.params) (λ k lt. element-of t c.classes (Param k)) in (
-      record { sizes = sizes.0; tables = tables.0; constants = constants.0 },
-      record { vars = vars.0; rows = rows.0; params = params.0 },
-      model-of c table closure none usual (record { sizes = sizes.0; tables = tables.0; constants = constants.0 }) (record { vars = vars.0; rows = rows.0; params = params.0 })
-          (model-db t c.classes sizes.0 tables.0 constants.0 (sizes.1, λ k lt. sizes.2 k (rw (← sizes.1) lt)) tables.1
-          (record { each = λ f decl lt known. tables.2 f.n (rw (← tables.1) lt) decl known }) (constants.1, λ k lt. constants.2 k (rw (← constants.1) lt)))
-          (model_values t c.classes vars.0 rows.0 params.0 (vars.1, λ x lt. vars.2 x.n (rw (← vars.1) lt)) rows.1
-          (record { lengths = λ k r lt known. (rows.2 k (rw (← rows.1) lt) r known).0; cells = λ k m r lt known in_row. (rows.2 k (rw (← rows.1) lt) r known).1 m in_row })
-          (params.1, λ k lt. params.2 k (rw (← params.1) lt))),
+pub a_model : (c : ClosureParts) → IsTable c.table → IsClosure c → c.clash ≡ None → (d : RawDb) × (v : Values) × IsModelOf c d v
+a_model c table closure none =
+    let number : ℕ → ℕ = number_of c.table.shape.schema.sorts c.classes in
+    let size : SortId → ℕ = λ _. room_of c.table.shape.schema.sorts c.table.terms in
+    let numbers = uniform-numbers c.table.shape c.table.problem.rows c.table.problem.params table.shape.schema c.table.problem.literals table.fits.literals (IsFactOf c) closure.facts_fit
+    c.table.terms c.classes table.terms (below c.table table c.marks c.classes closure.partial) (consistent c table closure none) closure.partial.sound in
+    let sizes = choose (λ (k y : ℕ). y ≡ room_of c.table.shape.schema.sorts c.table.terms) 0 c.table.shape.schema.sorts (λ k lt. (room_of c.table.shape.schema.sorts c.table.terms, refl)) in
+    let tables = choose {X = List ℕ} (λ k ys. (decl : FunDecl) → slice_get c.table.shape.schema.functions k ≡ Some decl → IsTableOf c.table.terms number size (record { n = k }) decl ys) []
+    (length c.table.shape.schema.functions) (λ k lt. table_at c.table table number size k (slice_get c.table.shape.schema.functions k) refl) in
+    let constants = choose (λ (k y : ℕ). y ≡ number (c.table.shape.schema.sorts + k)) 0 (length c.table.shape.schema.constants) (λ k lt. (number (c.table.shape.schema.sorts + k), refl)) in
+    let vars = elements-of c.table.terms number variable (length c.table.shape.vars) in
+    let rows = choose {X = List ℕ} (λ k ys. IsRowOf c.table table number size k ys) [] (length c.table.problem.rows)
+    (λ k lt. row_at c.table table number size k (slice_get c.table.problem.rows k) refl) in
+    let params = elements-of c.table.terms number Param (length c.table.problem.params) in
+    let d : RawDb = record { sizes = sizes.0; tables = tables.0; constants = constants.0 } in
+    let v : Values = record { vars = vars.0; rows = rows.0; params = params.0 } in (
+      d,
+      v,
+      model-of c table closure none number size numbers d v
+          (record {
+            as_many_sizes = sizes.1;
+            sizes = λ s lt. sizes.2 s.n lt;
+            as_many_tables = tables.1;
+            tables = record { each = λ f decl lt known. tables.2 f.n (rw (← tables.1) lt) decl known };
+            as_many_constants = constants.1;
+            constants = constants.2;
+          })
+          (record {
+            vars = vars.1;
+            as_many_rows = rows.1;
+            rows_with = record { each = λ k r lt known. rows.2 k (rw (← rows.1) lt) r known };
+            param_values = params.1;
+          }),
     )
-  where
-    table_at : (k : ℕ) (o : Option FunDecl) → slice_get c.table.shape.schema.functions k ≡ o
-        → (ys : List ℕ) × ((decl : FunDecl) → slice_get c.table.shape.schema.functions k ≡ Some decl → IsTableOf c.table c.classes (record { n = k }) decl ys)
-    table_at k None e = ([], λ decl h. absurd (nothing decl (sym e ∙ h)))
-      where
-        nothing : (decl : FunDecl) → None ≡ Some decl → ⊥
-        nothing decl h = cc
-    table_at k (Some decl) e =
-        let y = table-of c.table table c.classes (record { n = k }) decl in
-        (y.0, λ other h. subst (λ (q : FunDecl). IsTableOf c.table c.classes (record { n = k }) q y.0) (some_same decl other (sym e ∙ h)) y.1)
 
-    row_at : (k : ℕ) (o : Option RelId) → slice_get c.table.problem.rows k ≡ o → (ys : List ℕ) × ((r : RelId) → slice_get c.table.problem.rows k ≡ Some r → IsCellRow c.table c.classes k r ys)
-    row_at k None e = ([], λ r h. absurd (nothing r (sym e ∙ h)))
-      where
-        nothing : (r : RelId) → None ≡ Some r → ⊥
-        nothing r h = cc
-    row_at k (Some r) e =
-        let y = choose (λ m x. IsElementOf c.table c.classes (Cell k m) x) 0 (length (get_or c.table.shape.relations r.n [])) (λ m lt. element-of c.table c.classes (Cell k m)) in
-        (y.0, λ other h. subst (λ (q : RelId). IsCellRow c.table c.classes k q y.0) (some_same r other (sym e ∙ h)) (y.1, y.2))
+pub not_without : (c : ClosureParts) → IsTable c.table → IsClosure c → c.clash ≡ None → HasNoModel c → ⊥
+not_without c table closure none no_model = let m = a_model c table closure none in no_model m.0 m.1 m.2.database m.2.values m.2.facts

@@ -23,7 +23,10 @@ use Rattle.ras_logic.specs.Formulas.{LiteralFits}
 use Rattle.ras_logic.specs.Terms.{sort_of_base, sort_after, sort_along, sort_of, base_term, constant_term, undef_term, image_term}
 use Rattle.ras_logic.proofs.TermSorts.{and_then_through, sort_after-step, sort_of-undef, sort_of-constant, constant-sort}
 use Rattle.ras_logic.specs.Clashes.{IsTerm}
-use Rattle.ras_closure.specs.Models.{class, IsAt, AreTerms, AreClosed, EachHolds, AreNumbers, IsImage, IsModelDb, IsNumberOf, AreModelValues}
+use Rattle.ras_closure.specs.Classes.{class, AreClosed, AreConsistent}
+use Rattle.ras_closure.specs.Numbered.{IsAt, AreTerms}
+use Rattle.ras_closure.specs.Models.{AreNumbers, IsImage, IsTableOf, IsModelDb, IsElementOf, AreElementsOf, AreModelValues}
+use Rattle.ras_closure.specs.Closures.{EachHolds}
 use Rattle.ras_closure.proofs.Prefixes.{prefix-term}
 use Rattle.ras_closure.proofs.Sorting.{from_known, HasSort, term-sorted, sort_of-image}
 
@@ -34,6 +37,7 @@ module _ (shape : ShapeParts) (rows : List RelId) (params : List SortId) (ok : I
     (IsFact : Literal → Type 0) (facts_fit : (l : Literal) → IsFact l → LiteralFits shape rows params l)
     (facts_known : (s t : Term) (same : Bool) → IsFact (Equal s t same) → IsTerm shape.schema literals s × IsTerm shape.schema literals t)
     (terms : List Term) (classes : List ℕ) (are : AreTerms shape.schema literals terms) (closed : AreClosed shape.schema IsFact terms classes)
+    (consistent : AreConsistent shape.schema IsFact terms classes)
     (number : ℕ → ℕ) (size : SortId → ℕ) (numbers : AreNumbers shape rows params terms classes number size) where
   sort_of_term : (i : ℕ) (t : Term) → IsAt terms i t → HasSort shape rows params t
   sort_of_term i t at = term-sorted shape rows params literals fit (are.known i t at)
@@ -100,8 +104,8 @@ module _ (shape : ShapeParts) (rows : List RelId) (params : List SortId) (ok : I
       let lt = slice_get_within shape.schema.constants c.n s known in
       let sort_lt : s.n < shape.schema.sorts = from_known (IsSort shape.schema.sorts) shape.schema.constants ok.constants c.n s known in
       let e = zero_class (shape.schema.sorts + c.n) (constant_term c) s (are.constants c lt) (sort_of-constant shape rows params c s known) sort_lt z in
-      let one : class classes (shape.schema.sorts + c.n) ≡ shape.schema.sorts + c.n = closed.rigid (shape.schema.sorts + c.n) (omega arith) in
-      let two : class classes s.n ≡ s.n = closed.rigid s.n (omega arith) in
+      let one : class classes (shape.schema.sorts + c.n) ≡ shape.schema.sorts + c.n = consistent.rigid (shape.schema.sorts + c.n) (omega arith) in
+      let two : class classes s.n ≡ s.n = consistent.rigid s.n (omega arith) in
       omega arith)
     where
       above : (n : ℕ) → (n ≡ 0 → ⊥) → 0 < n
@@ -115,8 +119,8 @@ module _ (shape : ShapeParts) (rows : List RelId) (params : List SortId) (ok : I
       let lt2 = slice_get_within shape.schema.constants e.n s known2 in
       let k = numbers.apart (shape.schema.sorts + c.n) (shape.schema.sorts + e.n) (constant_term c) (constant_term e) s (are.constants c lt) (are.constants e lt2)
       (sort_of-constant shape rows params c s known) (sort_of-constant shape rows params e s known2) same in
-      let one : class classes (shape.schema.sorts + c.n) ≡ shape.schema.sorts + c.n = closed.rigid (shape.schema.sorts + c.n) (omega arith) in
-      let two : class classes (shape.schema.sorts + e.n) ≡ shape.schema.sorts + e.n = closed.rigid (shape.schema.sorts + e.n) (omega arith) in
+      let one : class classes (shape.schema.sorts + c.n) ≡ shape.schema.sorts + c.n = consistent.rigid (shape.schema.sorts + c.n) (omega arith) in
+      let two : class classes (shape.schema.sorts + e.n) ≡ shape.schema.sorts + e.n = consistent.rigid (shape.schema.sorts + e.n) (omega arith) in
       omega arith
 
   -- an image is an element
@@ -132,15 +136,15 @@ module _ (shape : ShapeParts) (rows : List RelId) (params : List SortId) (ok : I
       choice true = omega arith
       choice false = omega arith
 
-  image-above : (f : FunId) (decl : FunDecl) (x y : ℕ) → slice_get shape.schema.functions f.n ≡ Some decl → decl.total ≡ true → 0 < x
+  image-above : (f : FunId) (decl : FunDecl) (x y : ℕ) → slice_get shape.schema.functions f.n ≡ Some decl → decl.total ≡ true → 0 < x → x ≤ size decl.source
       → IsImage terms number size f decl x y → 0 < y
-  image-above f decl x y known total lt (inl h) = above y (λ (z : y ≡ 0).
+  image-above f decl x y known total lt le (inl h) = above y (λ (z : y ≡ 0).
       let back = only_zero h.0 h.1 h.2 f decl known total h.3 h.4 (sym h.6 ∙ z) in omega (arith, h.5, back))
     where
       above : (n : ℕ) → (n ≡ 0 → ⊥) → 0 < n
       above zero h = absurd (h refl)
       above (suc n) h = omega arith
-  image-above f decl x y known total lt (inr h) = rw (h.1, total) (numbers.room decl.target)
+  image-above f decl x y known total lt le (inr h) = rw (h.1, total) (numbers.room f decl known total x lt le h.0)
 
   image-of_term : (f : FunId) (decl : FunDecl) (x y i k : ℕ) (t : Term) → IsImage terms number size f decl x y → IsAt terms i t → IsAt terms k (image_term t f)
       → number i ≡ x → y ≡ number k
@@ -148,15 +152,19 @@ module _ (shape : ShapeParts) (rows : List RelId) (params : List SortId) (ok : I
   image-of_term f decl x y i k t (inr h) at_i at_k e = absurd (h.0 i k t at_i at_k e)
 
   module _ (d : RawDb) (db : IsModelDb shape.schema terms number size d) where
+    table_of : (f : FunId) (decl : FunDecl) → slice_get shape.schema.functions f.n ≡ Some decl → IsTableOf terms number size f decl (get_or d.tables f.n [])
+    table_of f decl known = db.tables.each f decl (rw db.as_many_tables (slice_get_within shape.schema.functions f.n decl known)) known
+
     model-table : (f : FunId) (decl : FunDecl) → slice_get shape.schema.functions f.n ≡ Some decl → IsTable d decl (get_or d.tables f.n [])
-    model-table f decl known = record {
-      as_long = db.table_lengths f decl known ∙ sym (db.sizes decl.source (source-within f decl known));
-      in_target = λ k lt.
-          let le = image-within f decl (k + 1) (get_or (get_or d.tables f.n []) k 0) known (db.images f decl known k (omega (arith, db.table_lengths f decl known))) in
-          omega (arith, db.sizes decl.target (target-within f decl known));
-      total = λ total k lt.
-          image-above f decl (k + 1) (get_or (get_or d.tables f.n []) k 0) known total (omega arith) (db.images f decl known k (omega (arith, db.table_lengths f decl known)));
-    }
+    model-table f decl known =
+        let table = table_of f decl known in record {
+          as_long = table.long ∙ sym (db.sizes decl.source (source-within f decl known));
+          in_target = λ k lt.
+              let le = image-within f decl (k + 1) (get_or (get_or d.tables f.n []) k 0) known (table.images k lt) in
+              omega (arith, le, db.sizes decl.target (target-within f decl known));
+          total = λ total k lt.
+              image-above f decl (k + 1) (get_or (get_or d.tables f.n []) k 0) known total (omega arith) (omega (arith, lt, table.long)) (table.images k lt);
+        }
 
     pub model-database : IsDatabase shape.schema d
     model-database = record {
@@ -167,14 +175,14 @@ module _ (shape : ShapeParts) (rows : List RelId) (params : List SortId) (ok : I
       each_constant = λ k s known.
           let lt = slice_get_within shape.schema.constants k s known in
           let c : ConstId = record { n = k } in
-          let is = db.constants c lt in
+          let is = db.constants k lt in
           let sort_lt : s.n < shape.schema.sorts = from_known (IsSort shape.schema.sorts) shape.schema.constants ok.constants k s known in
           let above = constant_above c s known in
           let le = numbers.within (shape.schema.sorts + k) (constant_term c) s (are.constants c lt) (sort_of-constant shape rows params c s known) in
           (omega arith, omega (arith, db.sizes s sort_lt));
       apart = λ j k s known known2 e.
           constant_apart (record { n = j }) (record { n = k }) s known known2
-          (sym (db.constants (record { n = j }) (slice_get_within shape.schema.constants j s known)) ∙ e ∙ db.constants (record { n = k }) (slice_get_within shape.schema.constants k s known2));
+          (sym (db.constants j (slice_get_within shape.schema.constants j s known)) ∙ e ∙ db.constants k (slice_get_within shape.schema.constants k s known2));
     }
 
     -- the image of the number of a term
@@ -187,35 +195,39 @@ module _ (shape : ShapeParts) (rows : List RelId) (params : List SortId) (ok : I
             let a = image_sorts k t f at_k in
             let le = numbers.within i t a.decl.source at_i a.source in
             let lt : x < size a.decl.source = omega (arith, le, e) in
-            image-of_term f a.decl (x + 1) (get_or (get_or d.tables f.n []) x 0) i k t (db.images f a.decl a.known x lt) at_i at_k (omega (arith, e))
+            let table = table_of f a.decl a.known in
+            image-of_term f a.decl (x + 1) (get_or (get_or d.tables f.n []) x 0) i k t (table.images x (rw table.long lt)) at_i at_k (omega (arith, e))
 
     module _ (v : Values) (values : AreModelValues shape rows params terms number v) where
+      row_of : (k : ℕ) (r : RelId) → slice_get rows k ≡ Some r → AreElementsOf terms number (Cell k) (length (get_or shape.relations r.n [])) (get_or v.rows k [])
+      row_of k r known = values.rows_with.each k r (rw values.as_many_rows (slice_get_within rows k r known)) known
+
       number-within : (b : Base) (s : SortId) (x : ℕ) → sort_of shape rows params (base_term b) ≡ Some s → s.n < shape.schema.sorts
-          → IsNumberOf terms number (base_term b) x → IsElement d s x
+          → IsElementOf terms number b x → IsElement d s x
       number-within b s x sorted lt (inl h) = let le = numbers.within h.0 (base_term b) s h.1 sorted in omega (arith, le, h.2, db.sizes s lt)
       number-within b s x sorted lt (inr h) = omega (arith, h.1)
 
-      number-is : (b : Base) (x i : ℕ) → IsNumberOf terms number (base_term b) x → IsAt terms i (base_term b) → x ≡ number i
+      number-is : (b : Base) (x i : ℕ) → IsElementOf terms number b x → IsAt terms i (base_term b) → x ≡ number i
       number-is b x i (inl h) at = h.2 ∙ ap number (are.different h.0 i (base_term b) h.1 at)
       number-is b x i (inr h) at = absurd (h.0 i at)
 
       pub model-values : AreValues shape d rows params v
       model-values = record {
         vars = record {
-          as_many = values.as_many_vars;
+          as_many = values.vars.as_many;
           each = λ k s known. number-within (Var (record { n = k })) s (get_or v.vars k 0) (rw known) (from_known (IsSort shape.schema.sorts) shape.vars vars_sorted k s known)
-              (values.vars (record { n = k }) (slice_get_within shape.vars k s known));
+              (values.vars.each k (slice_get_within shape.vars k s known));
         };
         as_many_rows = values.as_many_rows;
         each_row = λ k r known. record {
-          as_many = values.as_many_cells k r known;
+          as_many = (row_of k r known).as_many;
           each = λ c s in_row. number-within (Cell k c) s (get_or (get_or v.rows k []) c 0) (cell_sort k c r s known in_row) (column_sort r c s in_row)
-              (values.cells k c r known (slice_get_within (get_or shape.relations r.n []) c s in_row));
+              ((row_of k r known).each c (slice_get_within (get_or shape.relations r.n []) c s in_row));
         };
         param_values = record {
-          as_many = values.as_many_params;
+          as_many = values.param_values.as_many;
           each = λ k s known. number-within (Param k) s (get_or v.params k 0) (rw known) (from_known (IsSort shape.schema.sorts) params params_sorted k s known)
-              (values.params_known k (slice_get_within params k s known));
+              (values.param_values.each k (slice_get_within params k s known));
         };
       }
         where
@@ -237,18 +249,18 @@ module _ (shape : ShapeParts) (rows : List RelId) (params : List SortId) (ok : I
       base_number (Var x) i at =
           let h = sort_of_term i (base_term (Var x)) at in
           let w = and_then_through (sort_along shape.schema []) (slice_get shape.vars x.n) h.sort h.is_sort in
-          number-is (Var x) (get_or v.vars x.n 0) i (values.vars x (slice_get_within shape.vars x.n w.mid w.first)) at
+          number-is (Var x) (get_or v.vars x.n 0) i (values.vars.each x.n (slice_get_within shape.vars x.n w.mid w.first)) at
       base_number (Cell row column) i at =
           let h = sort_of_term i (base_term (Cell row column)) at in
           let w = and_then_through (sort_along shape.schema []) (sort_of_base shape rows params (Cell row column)) h.sort h.is_sort in
           let t = and_then_through (λ (r : RelId). option_and_then (λ (columns : List SortId). slice_get columns column) (slice_get shape.relations r.n)) (slice_get rows row) w.mid w.first in
           let u = and_then_through (λ (columns : List SortId). slice_get columns column) (slice_get shape.relations t.mid.n) w.mid t.second in
           let lt : column < length (get_or shape.relations t.mid.n []) = rw (get_or_from_slice_get shape.relations t.mid.n u.mid [] u.first) (slice_get_within u.mid column w.mid u.second) in
-          number-is (Cell row column) (get_or (get_or v.rows row []) column 0) i (values.cells row column t.mid t.first lt) at
+          number-is (Cell row column) (get_or (get_or v.rows row []) column 0) i ((row_of row t.mid t.first).each column lt) at
       base_number (Constant c) i at =
           let h = sort_of_term i (constant_term c) at in
           let lt = slice_get_within shape.schema.constants c.n h.sort (constant-sort shape rows params c h.sort h.is_sort) in
-          db.constants c lt ∙ ap number (are.different (shape.schema.sorts + c.n) i (constant_term c) (are.constants c lt) at)
+          db.constants c.n lt ∙ ap number (are.different (shape.schema.sorts + c.n) i (constant_term c) (are.constants c lt) at)
       base_number (Undef s) i at =
           let h = sort_of_term i (undef_term s) at in
           let lt : s.n < shape.schema.sorts = undef_within h.sort h.is_sort in
@@ -261,7 +273,7 @@ module _ (shape : ShapeParts) (rows : List RelId) (params : List SortId) (ok : I
       base_number (Param p) i at =
           let h = sort_of_term i (base_term (Param p)) at in
           let w = and_then_through (sort_along shape.schema []) (slice_get params p) h.sort h.is_sort in
-          number-is (Param p) (get_or v.params p 0) i (values.params_known p (slice_get_within params p w.mid w.first)) at
+          number-is (Param p) (get_or v.params p 0) i (values.param_values.each p (slice_get_within params p w.mid w.first)) at
 
       path_number : (b : Base) (rest pre : List FunId) (i j : ℕ) → IsAt terms i (record { base = b; path = pre }) → IsAt terms j (record { base = b; path = pre ++ rest })
           → image_along d rest (number i) ≡ number j
@@ -297,7 +309,7 @@ module _ (shape : ShapeParts) (rows : List RelId) (params : List SortId) (ok : I
       model-holds (Equal s t false) fact =
           let known = facts_known s t false fact in let a = are.complete s known.0 in let b = are.complete t known.1 in let f = facts_fit (Equal s t false) fact in
           differ (nat_eq (value d v s) (value d v t)) (λ (e : nat_eq (value d v s) (value d v t) ≡ true).
-          closed.apart a.0 b.0 s t a.1 b.1 fact (model-apart a.0 b.0 s t f.0 a.1 b.1 f.1 f.2 (eqb-true (value d v s) (value d v t) e)))
+          consistent.apart a.0 b.0 s t a.1 b.1 fact (model-apart a.0 b.0 s t f.0 a.1 b.1 f.1 f.2 (eqb-true (value d v s) (value d v t) e)))
         where
           differ : (x : Bool) → (x ≡ true → ⊥) → IsTrue (not x)
           differ true h = absurd (h refl)

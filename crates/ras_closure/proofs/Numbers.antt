@@ -1,5 +1,5 @@
 -- Elements for terms, the same count for every sort: a class beyond the undefs has its number's distance from them.
-use Rattle.std.proofs.Common.{◌≡◌, ℕ, zero, suc, ◌+◌, ◌-◌, ◌<◌, ◌≤◌, List, refl, sym, ◌∙◌, ap, arith, ◌⊎◌, inl, inr}
+use Rattle.std.proofs.Common.{length, ◌≡◌, ℕ, zero, suc, ◌+◌, ◌-◌, ◌<◌, ◌≤◌, List, refl, sym, ◌∙◌, ap, arith, ◌⊎◌, inl, inr}
 use Rattle.std.specs.Prelude.{Some, All}
 use Rattle.std.proofs.lemmas.Option.{slice_get_within}
 use Rattle.ras_logic.specs.declared.ids.SortId.{SortId}
@@ -11,20 +11,22 @@ use Rattle.ras_logic.specs.Schemas.{IsSchema}
 use Rattle.ras_logic.specs.Formulas.{LiteralFits}
 use Rattle.ras_logic.specs.Terms.{sort_of, undef_term}
 use Rattle.ras_logic.proofs.TermSorts.{undef-sort}
-use Rattle.ras_closure.specs.Models.{class, IsAt, AreTerms, AreClosed, AreSound, AreNumbers, number_of, room_of}
+use Rattle.ras_closure.specs.Classes.{class, AreSound, AreConsistent}
+use Rattle.ras_closure.specs.Numbered.{IsAt, AreTerms}
+use Rattle.ras_closure.specs.Models.{AreNumbers, number_of, room_of}
 use Rattle.ras_closure.proofs.Sorting.{together-sorted}
 
 module _ (shape : ShapeParts) (rows : List RelId) (params : List SortId) (ok : IsSchema shape.schema)
     (literals : List Literal) (fit : All (LiteralFits shape rows params) literals)
     (IsFact : Literal → Type 0) (facts_fit : (l : Literal) → IsFact l → LiteralFits shape rows params l)
-    (terms : List Term) (classes : List ℕ) (are : AreTerms shape.schema literals terms) (closed : AreClosed shape.schema IsFact terms classes)
+    (terms : List Term) (classes : List ℕ) (are : AreTerms shape.schema literals terms) (below : (i : ℕ) → i < length terms → class classes i < length terms) (consistent : AreConsistent shape.schema IsFact terms classes)
     (sound : AreSound shape.schema literals IsFact terms classes) where
   -- a class with the number of an undef is that of the sort's undef
   low-class : (i : ℕ) (t : Term) (s : SortId) → IsAt terms i t → sort_of shape rows params t ≡ Some s → class classes i < shape.schema.sorts → class classes i ≡ s.n
   low-class i t s at sorted lt =
       let u : SortId = record { n = class classes i } in
       let same = together-sorted shape rows params ok literals fit IsFact facts_fit
-      (sound i (class classes i) t (undef_term u) at (are.undefs u lt) (sym (closed.rigid (class classes i) (omega arith)))) in
+      (sound i (class classes i) t (undef_term u) at (are.undefs u lt) (sym (consistent.rigid (class classes i) (omega arith)))) in
       let one : s ≡ same.sort = cc in
       let two = undef-sort shape rows params u same.sort same.right in
       sym (ap (λ (q : SortId). q.n) (one ∙ sym two))
@@ -33,9 +35,9 @@ module _ (shape : ShapeParts) (rows : List RelId) (params : List SortId) (ok : I
   uniform-numbers = record {
     same = λ i j lt_i lt_j e. ap (λ (c : ℕ). (c + 1) - shape.schema.sorts) e;
     apart = λ i j s t u at_i at_j left right e. split i j s t u at_i at_j left right e (below_or (class classes i) shape.schema.sorts) (below_or (class classes j) shape.schema.sorts);
-    undefs = λ s lt. let r = closed.rigid s.n (omega arith) in omega (arith, r, lt);
-    within = λ i t s at sorted. let b = closed.below i (slice_get_within terms i t at) in omega (arith, b);
-    room = λ s. roomy shape.schema.sorts refl;
+    undefs = λ s lt. let r = consistent.rigid s.n (omega arith) in omega (arith, r, lt);
+    within = λ i t s at sorted. let b = below i (slice_get_within terms i t at) in omega (arith, b);
+    room = λ f decl known total x lt le none. roomy shape.schema.sorts refl;
   }
     where
       below_or : (a b : ℕ) → (a < b) ⊎ (b ≤ a)

@@ -1,10 +1,11 @@
 -- Places in a table over pairs.
 use Rattle.std.proofs.Common.{◌≡◌, ◌≢◌, ℕ, ◌+◌, ◌*◌, ◌/◌, ◌%◌, ◌<◌, Bool, true, false, List, length, get_or, arith, sym, ap, ◌∙◌, refl, ◌⊎◌, inl, inr, ⊎_elim, set, get_or-set_other, get_or-set_same}
+use Rattle.std.proofs.Math.Nat.{mul_comm}
 use Rattle.std.proofs.lemmas.Nat.{mul-add-lt, div-mul-add, mod-mul-add}
-use Rattle.ras_closure.specs.Facts.{MarkParts, is_marked, AddsMark}
+use Rattle.ras_closure.specs.Assertions.{MarkParts, is_marked, AddsMark}
 
-pub place-below : (i j w : ℕ) → i < w → j < w → i * w + j < w * w
-place-below i j w lt_i lt_j = mul-add-lt i w j w lt_i lt_j
+pub place-below : (i j h w : ℕ) → i < h → j < w → i * w + j < h * w
+place-below i j h w lt_i lt_j = rw (mul_comm h w) (mul-add-lt i w j h lt_i lt_j)
 
 pub place-same : (i j k l w : ℕ) → j < w → l < w → i * w + j ≡ k * w + l → (i ≡ k) × (j ≡ l)
 place-same i j k l w lt_j lt_l e =
@@ -25,7 +26,7 @@ set-at xs at k lt = (
 pub adds-same : (m : MarkParts) (i j : ℕ) → length m.same ≡ m.width * m.width → i < m.width → j < m.width
     → AddsMark m (record m { same = set m.same (i * m.width + j) true }) true i j
 adds-same m i j long lt_i lt_j =
-    let lt : i * m.width + j < length m.same = rw long (place-below i j m.width lt_i lt_j) in
+    let lt : i * m.width + j < length m.same = rw long (place-below i j m.width m.width lt_i lt_j) in
     record {
       width = refl;
       here = (set-at m.same (i * m.width + j) 0 lt).0;
@@ -46,7 +47,7 @@ adds-same m i j long lt_i lt_j =
 pub adds-apart : (m : MarkParts) (i j : ℕ) → length m.apart ≡ m.width * m.width → i < m.width → j < m.width
     → AddsMark m (record m { apart = set m.apart (i * m.width + j) true }) false i j
 adds-apart m i j long lt_i lt_j =
-    let lt : i * m.width + j < length m.apart = rw long (place-below i j m.width lt_i lt_j) in
+    let lt : i * m.width + j < length m.apart = rw long (place-below i j m.width m.width lt_i lt_j) in
     record {
       width = refl;
       here = (set-at m.apart (i * m.width + j) 0 lt).0;

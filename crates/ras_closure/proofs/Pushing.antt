@@ -11,8 +11,7 @@ use Rattle.ras_closure.specs.declared.link.Link.{Link}
 use Rattle.ras_closure.specs.declared.link.Link.TheVariants.{Base, Image}
 use Rattle.ras_logic.specs.Terms.{image_term}
 use Rattle.ras_logic.specs.Clashes.{IsTerm}
-use Rattle.ras_closure.specs.Models.{IsAt}
-use Rattle.ras_closure.specs.Saturation.{IsImageLink}
+use Rattle.ras_closure.specs.Numbered.{IsAt, IsImageLink}
 use Rattle.ras_closure.proofs.Prefixes.{prefix-term}
 use Rattle.ras_closure.specs.Building.{IsPart, Grows, LinkFits, prefix_at, HasPrefixes}
 

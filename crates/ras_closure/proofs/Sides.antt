@@ -19,7 +19,7 @@ use Rattle.ras_logic.specs.Terms.{sort_of, sort_of_base, sort_along, sort_after,
 use Rattle.ras_logic.proofs.TermSorts.{and_then_through, sort_after-step}
 use Rattle.ras_closure.specs.declared.link.Link.{Link}
 use Rattle.ras_logic.specs.Clashes.{sides, IsPrefixOf, IsTerm, of_literals, a_constant, an_undef}
-use Rattle.ras_closure.specs.Models.{IsAt, AreTerms}
+use Rattle.ras_closure.specs.Numbered.{IsAt, AreTerms}
 use Rattle.ras_closure.specs.Building.{fixed_term, IsPart, Grows, prefix_at, HasPrefixes, HasSides, HasFunctions, SidesKnown, AreFixed, HaveSides, left_of, right_of}
 use Rattle.ras_closure.proofs.Prefixes.{same_term}
 use Rattle.ras_closure.proofs.Pushing.{prefixes-grow, grows-push, pushed-at}

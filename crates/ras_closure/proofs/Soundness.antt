@@ -19,7 +19,7 @@ use Rattle.ras_logic.specs.Formulas.{LiteralFits}
 use Rattle.ras_logic.specs.Terms.{undef_term, image_term}
 use Rattle.ras_logic.proofs.TermSorts.{image_along-append, image-total, value-element, constant-sort}
 use Rattle.ras_logic.specs.Clashes.{Together, Clash, itself, back, through, stated, same_images, image_of_undef, only_undef, stated_apart, two_constants, constant_undef}
-use Rattle.ras_closure.specs.Models.{EachHolds}
+use Rattle.ras_closure.specs.Closures.{EachHolds}
 use Rattle.ras_closure.proofs.Sorting.{SameSort, together-sorted, image-source}
 
 -- the value of the image of a term

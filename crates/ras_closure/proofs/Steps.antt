@@ -1,25 +1,31 @@
 -- One step of the saturation, and its end.
 use Rattle.std.proofs.Common.{◌≡◌, ◌≢◌, ℕ, zero, suc, ◌+◌, ◌-◌, ◌<◌, ◌≤◌, true, false, List, [], ◌∷◌, ◌++◌, length, nat_eq, cond, refl, sym, ◌∙◌, ap, subst, arith, ◌⊎◌, inl, inr, ⊎_elim}
-use Rattle.std.specs.Prelude.{slice_get, Option, Some, None, sum}
+use Rattle.std.specs.Prelude.{slice_get, Option, Some, None, sum, min, max, MatchOption}
 use Rattle.std.proofs.lemmas.Option.{slice_get_within, slice_get-get_or}
 use Rattle.std.proofs.lemmas.List.Sums.{sum_by-cons}
-use Rattle.ras_logic.specs.Schemas.{HasSorts}
+use Rattle.ras_logic.specs.Schemas.{SchemaParts, HasSorts}
 use Rattle.ras_logic.specs.declared.ids.SortId.{SortId}
 use Rattle.ras_logic.specs.declared.ids.ConstId.{ConstId}
 use Rattle.ras_logic.specs.declared.ids.FunId.{FunId}
 use Rattle.ras_logic.specs.declared.term.Base as Kind
 use Rattle.ras_logic.specs.declared.term.Term.{Term}
+use Rattle.ras_logic.specs.declared.literal.Literal.{Literal}
 use Rattle.ras_logic.specs.declared.literal.Literal.TheVariants.{Equal}
-use Rattle.ras_logic.specs.Terms.{constant_term, undef_term, image_term}
+use Rattle.ras_logic.specs.Terms.{sort_of, constant_term, undef_term, image_term}
 use Rattle.ras_logic.proofs.TermSorts.{undef-sort}
 use Rattle.ras_closure.specs.declared.link.Link.{Link}
 use Rattle.ras_closure.specs.declared.link.Link.TheVariants.{Base, Image}
-use Rattle.ras_logic.specs.Clashes.{Clash, back, through, stated, same_images, image_of_undef, only_undef, stated_apart, two_constants, constant_undef}
-use Rattle.ras_closure.specs.Models.{class, IsAt, AreClosed}
-use Rattle.ras_closure.specs.TableParts.{TableParts}
-use Rattle.ras_closure.specs.Facts.{MarkParts, IsAsserted, is_marked}
-use Rattle.ras_closure.specs.Saturation.{IsImageLink, IsTable, rigid_count, Forced, by_images, by_undef, by_total, IsForcedPair, IsSaturated, ArePartial, Coarsens, relabelled, AreJoined, AreRigid, FactsFit, AreTogether, AreClashing, IsBroken, IsUnited}
-use Rattle.ras_closure.proofs.Sorting.{from_known, together-sorted}
+use Rattle.ras_logic.specs.Clashes.{Together, Clash, back, through, stated, same_images, image_of_undef, only_undef, stated_apart, two_constants, constant_undef}
+use Rattle.ras_closure.specs.Classes.{class, AreClosed, Coarsens, relabelled}
+use Rattle.ras_closure.specs.Numbered.{IsAt, TableParts, IsImageLink, IsTable, rigid_count}
+use Rattle.ras_closure.specs.Assertions.{MarkParts, IsAsserted, is_marked, FactsFit}
+use Rattle.ras_closure.specs.Saturation.{Forced, by_images, by_undef, by_total, IsSaturated, AreBelow, ArePartial, AreTogether, AreClashing, AreUnbroken, MayMerge, AreBreaking}
+use Rattle.ras_closure.specs.declared.clash.Clash as Named
+use Rattle.ras_closure.specs.Closures.{Conflict, asserted_apart, constants, constant_and_undef, undef_and_constant}
+use Rattle.ras_closure.proofs.Sorting.{from_known, HasSort, term-sorted, together-sorted}
+
+pub coarsens-through : (old mid new : List ℕ) → length mid ≡ length old → Coarsens old mid → Coarsens mid new → Coarsens old new
+coarsens-through old mid new long first second i j lt_i lt_j e = second i j (rw long lt_i) (rw long lt_j) (first i j lt_i lt_j e)
 
 -- the term of a number
 pub term_at : (terms : List Term) (i : ℕ) → i < length terms → (t : Term) × IsAt terms i t
@@ -85,7 +91,7 @@ image-same s t f g e =
       r.1,
     )
 
-at-same : (terms : List Term) (i : ℕ) (s t : Term) → IsAt terms i s → IsAt terms i t → s ≡ t
+pub at-same : (terms : List Term) (i : ℕ) (s t : Term) → IsAt terms i s → IsAt terms i t → s ≡ t
 at-same terms i s t a b = cc
 
 module _ (t : TableParts) (table : IsTable t) where
@@ -121,6 +127,16 @@ module _ (t : TableParts) (table : IsTable t) where
       (λ (h : (c : ConstId) × (c.n < length t.shape.schema.constants) × (k ≡ t.shape.schema.sorts + c.n) × IsAt t.terms k (constant_term c)). slice_get_within t.terms k (constant_term h.0) h.3)
       (rigid_cases k lt)
 
+-- a term of a table has a sort
+pub table-sorted : (t : TableParts) → IsTable t → (i : ℕ) (s : Term) → IsAt t.terms i s → HasSort t.shape t.problem.rows t.problem.params s
+table-sorted t table i s at = term-sorted t.shape t.problem.rows t.problem.params t.problem.literals table.fits.literals (table.terms.known i s at)
+
+pub not_unsorted : (t : TableParts) → IsTable t → (i : ℕ) (s : Term) → IsAt t.terms i s → None ≡ sort_of t.shape t.problem.rows t.problem.params s → ⊥
+not_unsorted t table i s at e = let h = table-sorted t table i s at in none_some h.sort (e ∙ h.is_sort)
+  where
+    none_some : (u : SortId) → None ≡ Some u → ⊥
+    none_some u h = cc
+
 module _ (t : TableParts) (table : IsTable t) (marks : MarkParts) (classes : List ℕ) (partial : ArePartial t marks classes) where
   pub forced-together : (i j : ℕ) → Forced t classes i j → AreTogether t marks i j
   forced-together i j (by_images a b of of2 f la lb e) s u at_s at_u =
@@ -134,219 +150,236 @@ module _ (t : TableParts) (table : IsTable t) (marks : MarkParts) (classes : Lis
   forced-together i j (by_undef a of f d la known e) s u at_s at_u =
       let s0 = term_at t.terms of (table.links.of_terms a of f la) in
       let at_a = table.links.images a of f s0.0 la s0.1 in
-      let source : d.source.n < t.shape.schema.sorts = (from_known (HasSorts t.shape.schema.sorts) t.shape.schema.functions table.schema.functions f.n d known).0 in
-      let target : d.target.n < t.shape.schema.sorts = (from_known (HasSorts t.shape.schema.sorts) t.shape.schema.functions table.schema.functions f.n d known).1 in
+      let source : d.source.n < t.shape.schema.sorts = (from_known (HasSorts t.shape.schema.sorts) t.shape.schema.functions table.shape.schema.functions f.n d known).0 in
+      let target : d.target.n < t.shape.schema.sorts = (from_known (HasSorts t.shape.schema.sorts) t.shape.schema.functions table.shape.schema.functions f.n d known).1 in
       let one : s ≡ image_term s0.0 f = at-same t.terms a s (image_term s0.0 f) at_s at_a in
       let two : u ≡ undef_term d.target = at-same t.terms d.target.n u (undef_term d.target) at_u (table.terms.undefs d.target target) in
       rw (one, two) (image_of_undef s0.0 f d known (partial.sound of d.source.n s0.0 (undef_term d.source) s0.1 (table.terms.undefs d.source source) e) (table.terms.known a (image_term s0.0 f) at_a))
   forced-together i j (by_total a of f d la known total e) s u at_s at_u =
       let at_a = table.links.images a of f s la at_s in
-      let source : d.source.n < t.shape.schema.sorts = (from_known (HasSorts t.shape.schema.sorts) t.shape.schema.functions table.schema.functions f.n d known).0 in
-      let target : d.target.n < t.shape.schema.sorts = (from_known (HasSorts t.shape.schema.sorts) t.shape.schema.functions table.schema.functions f.n d known).1 in
+      let source : d.source.n < t.shape.schema.sorts = (from_known (HasSorts t.shape.schema.sorts) t.shape.schema.functions table.shape.schema.functions f.n d known).0 in
+      let target : d.target.n < t.shape.schema.sorts = (from_known (HasSorts t.shape.schema.sorts) t.shape.schema.functions table.shape.schema.functions f.n d known).1 in
       let two : u ≡ undef_term d.source = at-same t.terms d.source.n u (undef_term d.source) at_u (table.terms.undefs d.source source) in
       rw two (only_undef s f d known total (partial.sound a d.target.n (image_term s f) (undef_term d.target) at_a (table.terms.undefs d.target target) e))
 
   within : (i : ℕ) (s : Term) → IsAt t.terms i s → i < length classes
   within i s at = rw partial.as_many (slice_get_within t.terms i s at)
 
-  -- two classes become one
-  merged-partial : (a b from to : ℕ) → a < length t.terms → b < length t.terms → AreTogether t marks a b → class classes a ≡ to → class classes b ≡ from → to < from
-      → rigid_count t ≤ from → ArePartial t marks (relabelled from to classes)
-  merged-partial a b from to lt_a lt_b together class_a class_b less above = record {
-    as_many = length-relabelled from to classes ∙ partial.as_many;
-    below = λ i lt.
-        let old = partial.below i lt in
-        let small : to < length t.terms = rw (← class_a) (partial.below a lt_a) in
-        rw (class-relabelled from to classes i (rw partial.as_many lt))
-        (⊎_elim (λ (h : (class classes i ≡ from) × (cond (nat_eq (class classes i) from) to (class classes i) ≡ to)). rw h.1 small)
-        (λ (h : (class classes i ≢ from) × (cond (nat_eq (class classes i) from) to (class classes i) ≡ class classes i)). rw h.1 old)
-        (relabel_cases from to (class classes i)));
-    rigid = λ k lt.
-        let old = partial.rigid k lt in
-        let known : k < length classes = rw partial.as_many (rigid-within t table k lt) in
-        class-relabelled from to classes k known
-        ∙ ⊎_elim (λ (h : (class classes k ≡ from) × (cond (nat_eq (class classes k) from) to (class classes k) ≡ to)). absurd (omega (arith, old, h.0)))
-        (λ (h : (class classes k ≢ from) × (cond (nat_eq (class classes k) from) to (class classes k) ≡ class classes k)). h.1 ∙ old)
-        (relabel_cases from to (class classes k));
-    sound = λ i j s u at_i at_j e.
-        let e2 : cond (nat_eq (class classes i) from) to (class classes i) ≡ cond (nat_eq (class classes j) from) to (class classes j) =
-        sym (class-relabelled from to classes i (within i s at_i)) ∙ e ∙ class-relabelled from to classes j (within j u at_j) in
-        let ta = term_at t.terms a lt_a in
-        let tb = term_at t.terms b lt_b in
-        let ab = together ta.0 tb.0 ta.1 tb.1 in
-        ⊎_elim
-        (λ (h : (class classes i ≡ from) × (cond (nat_eq (class classes i) from) to (class classes i) ≡ to)).
-        ⊎_elim
-        (λ (g : (class classes j ≡ from) × (cond (nat_eq (class classes j) from) to (class classes j) ≡ to)). partial.sound i j s u at_i at_j (h.0 ∙ sym g.0))
-        (λ (g : (class classes j ≢ from) × (cond (nat_eq (class classes j) from) to (class classes j) ≡ class classes j)).
-        through s tb.0 u (partial.sound i b s tb.0 at_i tb.1 (h.0 ∙ sym class_b))
-        (through tb.0 ta.0 u (back ta.0 tb.0 ab) (partial.sound a j ta.0 u ta.1 at_j (class_a ∙ sym h.1 ∙ e2 ∙ g.1))))
-        (relabel_cases from to (class classes j)))
-        (λ (h : (class classes i ≢ from) × (cond (nat_eq (class classes i) from) to (class classes i) ≡ class classes i)).
-        ⊎_elim
-        (λ (g : (class classes j ≡ from) × (cond (nat_eq (class classes j) from) to (class classes j) ≡ to)).
-        through s ta.0 u (partial.sound i a s ta.0 at_i ta.1 (sym h.1 ∙ e2 ∙ g.1 ∙ sym class_a))
-        (through ta.0 tb.0 u ab (partial.sound b j tb.0 u tb.1 at_j (class_b ∙ sym g.0))))
-        (λ (g : (class classes j ≢ from) × (cond (nat_eq (class classes j) from) to (class classes j) ≡ class classes j)).
-        partial.sound i j s u at_i at_j (sym h.1 ∙ e2 ∙ g.1))
-        (relabel_cases from to (class classes j)))
-        (relabel_cases from to (class classes i));
-  }
-    where
-      length-relabelled : (from to : ℕ) (cs : List ℕ) → length (relabelled from to cs) ≡ length cs
-      length-relabelled from to [] = refl
-      length-relabelled from to (c ∷ cs) = ap suc (length-relabelled from to cs)
-
-  -- undefs and constants in two classes that become one clash
-  merged-clash : (a b from to : ℕ) → a < length t.terms → b < length t.terms → AreTogether t marks a b → class classes a ≡ to → class classes b ≡ from → to < from
-      → from < rigid_count t → AreClashing t marks to from
-  merged-clash a b from to lt_a lt_b together class_a class_b less low = record {
-    left = rigid-within t table to (omega arith);
-    right = rigid-within t table from low;
-    together = joined;
-    reason = inr (omega arith, low, (λ (e : to ≡ from). omega arith));
-  }
-    where
-      joined : AreTogether t marks to from
-      joined s u at_s at_u =
-          let ta = term_at t.terms a lt_a in
-          let tb = term_at t.terms b lt_b in
-          through s ta.0 u (partial.sound to a s ta.0 at_s ta.1 (partial.rigid to (omega arith) ∙ sym class_a))
-          (through ta.0 tb.0 u (together ta.0 tb.0 ta.1 tb.1) (partial.sound b from tb.0 u tb.1 at_u (class_b ∙ sym (partial.rigid from low))))
+  pub below : (i : ℕ) → i < length t.terms → class classes i < length t.terms
+  below i lt = omega (arith, lt, partial.low i lt)
 
   turned : (a b : ℕ) → AreTogether t marks a b → AreTogether t marks b a
   turned a b h s u at_s at_u = back u s (h u s at_u at_s)
 
-  -- after two classes that must be one became one
-  pub record IsStep (new : List ℕ) : Type 0 where
+  -- terms of the classes of two terms that must be the same must be too
+  pub class-together : (a b i j : ℕ) → a < length t.terms → b < length t.terms → AreTogether t marks a b → class classes i ≡ class classes a → class classes j ≡ class classes b
+      → AreTogether t marks i j
+  class-together a b i j lt_a lt_b together one two s u at_s at_u =
+      let ta = term_at t.terms a lt_a in
+      let tb = term_at t.terms b lt_b in
+      through s ta.0 u (partial.sound i a s ta.0 at_s ta.1 one) (through ta.0 tb.0 u (together ta.0 tb.0 ta.1 tb.1) (partial.sound b j tb.0 u tb.1 at_u (sym two)))
+
+  module _ (a b to from : ℕ) (lt_a : a < length t.terms) (lt_b : b < length t.terms) (together : AreTogether t marks a b) (class_a : class classes a ≡ to) (class_b : class classes b ≡ from)
+      (less : to < from) where
+    new-class : (i : ℕ) → i < length t.terms
+        → ((class classes i ≡ from) × (class (relabelled from to classes) i ≡ to)) ⊎ ((class classes i ≢ from) × (class (relabelled from to classes) i ≡ class classes i))
+    new-class i lt =
+        let e = class-relabelled from to classes i (rw partial.as_many lt) in
+        ⊎_elim (λ (h : (class classes i ≡ from) × (cond (nat_eq (class classes i) from) to (class classes i) ≡ to)). inl (h.0, e ∙ h.1))
+        (λ (h : (class classes i ≢ from) × (cond (nat_eq (class classes i) from) to (class classes i) ≡ class classes i)). inr (h.0, e ∙ h.1))
+        (relabel_cases from to (class classes i))
+
+    -- terms of one new class are of one old class, or of the two that were merged
+    old_classes : (i j : ℕ) → i < length t.terms → j < length t.terms → class (relabelled from to classes) i ≡ class (relabelled from to classes) j
+        → (class classes i ≡ class classes j) ⊎ (((class classes i ≡ to) × (class classes j ≡ from)) ⊎ ((class classes i ≡ from) × (class classes j ≡ to)))
+    old_classes i j lt_i lt_j e = go (new-class i lt_i) (new-class j lt_j)
+      where
+        go : ((class classes i ≡ from) × (class (relabelled from to classes) i ≡ to)) ⊎ ((class classes i ≢ from) × (class (relabelled from to classes) i ≡ class classes i))
+            → ((class classes j ≡ from) × (class (relabelled from to classes) j ≡ to)) ⊎ ((class classes j ≢ from) × (class (relabelled from to classes) j ≡ class classes j))
+            → (class classes i ≡ class classes j) ⊎ (((class classes i ≡ to) × (class classes j ≡ from)) ⊎ ((class classes i ≡ from) × (class classes j ≡ to)))
+        go (inl h) (inl g) = inl (h.0 ∙ sym g.0)
+        go (inl h) (inr g) = inr (inr (h.0, sym g.1 ∙ sym e ∙ h.1))
+        go (inr h) (inl g) = inr (inl (sym h.1 ∙ e ∙ g.1, g.0))
+        go (inr h) (inr g) = inl (sym h.1 ∙ e ∙ g.1)
+
+    to-stays : class (relabelled from to classes) to ≡ to
+    to-stays =
+        let lt : to < length t.terms = rw (← class_a) (below a lt_a) in
+        let own : class classes to ≡ to = rw class_a at (partial.own a lt_a) in
+        ⊎_elim (λ (h : (class classes to ≡ from) × (class (relabelled from to classes) to ≡ to)). h.1)
+        (λ (h : (class classes to ≢ from) × (class (relabelled from to classes) to ≡ class classes to)). h.1 ∙ own) (new-class to lt)
+
+    pub merged-partial : ArePartial t marks (relabelled from to classes)
+    merged-partial = record {
+      as_many = length-relabelled from to classes ∙ partial.as_many;
+      low = λ i lt.
+          let old = partial.low i lt in
+          ⊎_elim (λ (h : (class classes i ≡ from) × (class (relabelled from to classes) i ≡ to)). omega (arith, old, h.0, h.1, less))
+          (λ (h : (class classes i ≢ from) × (class (relabelled from to classes) i ≡ class classes i)). omega (arith, old, h.1)) (new-class i lt);
+      own = λ i lt.
+          let small = below i lt in
+          ⊎_elim (λ (h : (class classes i ≡ from) × (class (relabelled from to classes) i ≡ to)). ap (class (relabelled from to classes)) h.1 ∙ to-stays ∙ sym h.1)
+          (λ (h : (class classes i ≢ from) × (class (relabelled from to classes) i ≡ class classes i)).
+          ap (class (relabelled from to classes)) h.1
+          ∙ ⊎_elim (λ (g : (class classes (class classes i) ≡ from) × (class (relabelled from to classes) (class classes i) ≡ to)). absurd (h.0 (sym (partial.own i lt) ∙ g.0)))
+          (λ (g : (class classes (class classes i) ≢ from) × (class (relabelled from to classes) (class classes i) ≡ class classes (class classes i))). g.1 ∙ partial.own i lt ∙ sym h.1)
+          (new-class (class classes i) small))
+          (new-class i lt);
+      sound = λ i j s u at_i at_j e.
+          ⊎_elim (λ (h : class classes i ≡ class classes j). partial.sound i j s u at_i at_j h)
+          (λ (h : ((class classes i ≡ to) × (class classes j ≡ from)) ⊎ ((class classes i ≡ from) × (class classes j ≡ to))).
+          ⊎_elim (λ (g : (class classes i ≡ to) × (class classes j ≡ from)). class-together a b i j lt_a lt_b together (g.0 ∙ sym class_a) (g.1 ∙ sym class_b) s u at_i at_j)
+          (λ (g : (class classes i ≡ from) × (class classes j ≡ to)). class-together b a i j lt_b lt_a (turned a b together) (g.0 ∙ sym class_b) (g.1 ∙ sym class_a) s u at_i at_j) h)
+          (old_classes i j (slice_get_within t.terms i s at_i) (slice_get_within t.terms j u at_j) e);
+    }
+      where
+        length-relabelled : (from to : ℕ) (cs : List ℕ) → length (relabelled from to cs) ≡ length cs
+        length-relabelled from to [] = refl
+        length-relabelled from to (c ∷ cs) = ap suc (length-relabelled from to cs)
+
+    -- classes that may be merged stay unbroken
+    pub merged-unbroken : marks.width ≡ length t.terms → MayMerge t marks classes to from → AreUnbroken t marks classes → AreUnbroken t marks (relabelled from to classes)
+    merged-unbroken width may unbroken = record {
+      rigid = λ k lt.
+          let old = unbroken.rigid k lt in
+          ⊎_elim (λ (h : (class classes k ≡ from) × (class (relabelled from to classes) k ≡ to)). absurd (omega (arith, lt, old, h.0, may.above)))
+          (λ (h : (class classes k ≢ from) × (class (relabelled from to classes) k ≡ class classes k)). h.1 ∙ old) (new-class k (rigid-within t table k lt));
+      apart = λ i j lt_i lt_j marked e.
+          ⊎_elim (λ (h : class classes i ≡ class classes j). unbroken.apart i j lt_i lt_j marked h)
+          (λ (h : ((class classes i ≡ to) × (class classes j ≡ from)) ⊎ ((class classes i ≡ from) × (class classes j ≡ to))).
+          ⊎_elim (λ (g : (class classes i ≡ to) × (class classes j ≡ from)). (may.unparted i lt_i g.0 j lt_j g.1).forth marked)
+          (λ (g : (class classes i ≡ from) × (class classes j ≡ to)). (may.unparted j lt_j g.1 i lt_i g.0).back marked) h)
+          (old_classes i j (rw (← width) lt_i) (rw (← width) lt_j) e);
+    }
+
+    -- what speaks against one class is a clash
+    pub breaking-clash : marks.width ≡ length t.terms → (q : Named.Clash) → AreBreaking t marks classes to from q → AreClashing t marks q.left.n q.right.n
+    breaking-clash width q (inl h) =
+        let lt_to : to < length t.terms = rigid-within t table to (omega (arith, less, h.0)) in
+        let lt_from : from < length t.terms = rigid-within t table from h.0 in
+        let own_to : class classes to ≡ to = rw class_a at (partial.own a lt_a) in
+        let own_from : class classes from ≡ from = rw class_b at (partial.own b lt_b) in
+        record {
+          left = rw h.1 lt_to;
+          right = rw h.2 lt_from;
+          together = class-together a b q.left.n q.right.n lt_a lt_b together (rw h.1 (own_to ∙ sym class_a)) (rw h.2 (own_from ∙ sym class_b));
+          reason = inr (omega (arith, less, h.0, h.1), omega (arith, h.0, h.2), (λ (e : q.left.n ≡ q.right.n). omega (arith, less, h.1, h.2, e)));
+        }
+    breaking-clash width q (inr h) = record {
+      left = rw (← width) h.left;
+      right = rw (← width) h.right;
+      together = ⊎_elim (λ (g : (class classes q.left.n ≡ to) × (class classes q.right.n ≡ from)). class-together a b q.left.n q.right.n lt_a lt_b together (g.0 ∙ sym class_a) (g.1 ∙ sym class_b))
+          (λ (g : (class classes q.left.n ≡ from) × (class classes q.right.n ≡ to)). class-together b a q.left.n q.right.n lt_b lt_a (turned a b together) (g.0 ∙ sym class_b) (g.1 ∙ sym class_a)) h.ends;
+      reason = inl h.marked;
+    }
+
+    pub merged-coarser : Coarsens classes (relabelled from to classes)
+    merged-coarser i k lt_i lt_k e = class-relabelled from to classes i lt_i ∙ ap (λ (c : ℕ). cond (nat_eq c from) to c) e ∙ sym (class-relabelled from to classes k lt_k)
+
+    pub merged-one : class (relabelled from to classes) a ≡ class (relabelled from to classes) b
+    merged-one =
+        ⊎_elim (λ (h : (class classes a ≡ from) × (class (relabelled from to classes) a ≡ to)). absurd (omega (arith, less, class_a, h.0)))
+        (λ (h : (class classes a ≢ from) × (class (relabelled from to classes) a ≡ class classes a)). h.1 ∙ class_a) (new-class a lt_a)
+        ∙ sym (⊎_elim (λ (h : (class classes b ≡ from) × (class (relabelled from to classes) b ≡ to)). h.1)
+        (λ (h : (class classes b ≢ from) × (class (relabelled from to classes) b ≡ class classes b)). absurd (h.0 class_b)) (new-class b lt_b))
+
+    pub merged-fewer : sum (relabelled from to classes) < sum classes
+    merged-fewer = sum-relabelled from to classes b (rw partial.as_many lt_b) class_b less
+
+  -- after two terms' classes became one
+  pub record IsMerged (new : List ℕ) (a b to from : ℕ) : Type 0 where
     pub still : ArePartial t marks new
     pub coarser : Coarsens classes new
-    pub smaller : sum new < sum classes
+    pub merged : class new a ≡ class new b
+    pub fewer : sum new < sum classes
+    pub unbroken : MayMerge t marks classes to from → AreUnbroken t marks classes → AreUnbroken t marks new
+    pub clash : (q : Named.Clash) → AreBreaking t marks classes to from q → AreClashing t marks q.left.n q.right.n
 
-  pub joined-step : (a b : ℕ) (new : List ℕ) → a < length t.terms → b < length t.terms → AreTogether t marks a b → AreJoined classes new a b (rigid_count t) → IsStep new
-  joined-step a b new lt_a lt_b together j = subst (λ (cs : List ℕ). IsStep cs) (sym j.new_is) (go j.ends.ends)
+  -- two terms' classes become one, whichever has the smaller number
+  pub merging : marks.width ≡ length t.terms → (a b to from : ℕ) → a < length t.terms → b < length t.terms → AreTogether t marks a b → class classes a ≢ class classes b
+      → to ≡ min (class classes a) (class classes b) → from ≡ max (class classes a) (class classes b) → IsMerged (relabelled from to classes) a b to from
+  merging width a b to from lt_a lt_b together differ is_to is_from = go (ends (class classes a) (class classes b) to from is_to is_from differ)
     where
-      go : ((class classes a ≡ j.to) × (class classes b ≡ j.from)) ⊎ ((class classes b ≡ j.to) × (class classes a ≡ j.from)) → IsStep (relabelled j.from j.to classes)
+      ends : (x y p q : ℕ) → p ≡ min x y → q ≡ max x y → x ≢ y → ((x ≡ p) × (y ≡ q) × (p < q)) ⊎ ((y ≡ p) × (x ≡ q) × (p < q))
+      ends x y p q one two differ = grind arith
+
+      go : ((class classes a ≡ to) × (class classes b ≡ from) × (to < from)) ⊎ ((class classes b ≡ to) × (class classes a ≡ from) × (to < from)) → IsMerged (relabelled from to classes) a b to from
       go (inl h) = record {
-        still = merged-partial a b j.from j.to lt_a lt_b together h.0 h.1 j.ends.less j.above;
-        coarser = λ i k lt_i lt_k e. class-relabelled j.from j.to classes i lt_i ∙ ap (λ (c : ℕ). cond (nat_eq c j.from) j.to c) e ∙ sym (class-relabelled j.from j.to classes k lt_k);
-        smaller = sum-relabelled j.from j.to classes b (rw partial.as_many lt_b) h.1 j.ends.less;
+        still = merged-partial a b to from lt_a lt_b together h.0 h.1 h.2;
+        coarser = merged-coarser a b to from lt_a lt_b together h.0 h.1 h.2;
+        merged = merged-one a b to from lt_a lt_b together h.0 h.1 h.2;
+        fewer = merged-fewer a b to from lt_a lt_b together h.0 h.1 h.2;
+        unbroken = merged-unbroken a b to from lt_a lt_b together h.0 h.1 h.2 width;
+        clash = breaking-clash a b to from lt_a lt_b together h.0 h.1 h.2 width;
       }
-      go (inr h) = record {
-        still = merged-partial b a j.from j.to lt_b lt_a (turned a b together) h.0 h.1 j.ends.less j.above;
-        coarser = λ i k lt_i lt_k e. class-relabelled j.from j.to classes i lt_i ∙ ap (λ (c : ℕ). cond (nat_eq c j.from) j.to c) e ∙ sym (class-relabelled j.from j.to classes k lt_k);
-        smaller = sum-relabelled j.from j.to classes a (rw partial.as_many lt_a) h.1 j.ends.less;
-      }
+      go (inr h) =
+          let other = turned a b together in record {
+            still = merged-partial b a to from lt_b lt_a other h.0 h.1 h.2;
+            coarser = merged-coarser b a to from lt_b lt_a other h.0 h.1 h.2;
+            merged = sym (merged-one b a to from lt_b lt_a other h.0 h.1 h.2);
+            fewer = merged-fewer b a to from lt_b lt_a other h.0 h.1 h.2;
+            unbroken = merged-unbroken b a to from lt_b lt_a other h.0 h.1 h.2 width;
+            clash = breaking-clash b a to from lt_b lt_a other h.0 h.1 h.2 width;
+          }
 
-  pub joined-clash : (a b to from : ℕ) (new : List ℕ) → a < length t.terms → b < length t.terms → AreTogether t marks a b → AreRigid classes new a b (rigid_count t) to from
-      → AreClashing t marks to from
-  joined-clash a b to from new lt_a lt_b together j = go j.ends.ends
-    where
-      go : ((class classes a ≡ to) × (class classes b ≡ from)) ⊎ ((class classes b ≡ to) × (class classes a ≡ from)) → AreClashing t marks to from
-      go (inl h) = merged-clash a b from to lt_a lt_b together h.0 h.1 j.ends.less j.low
-      go (inr h) = merged-clash b a from to lt_b lt_a (turned a b together) h.0 h.1 j.ends.less j.low
+  pub merged-answer : (a b to from : ℕ) (new : List ℕ) → IsMerged new a b to from → (o : Option Named.Clash) → MatchOption o (MayMerge t marks classes to from) (AreBreaking t marks classes to from)
+      → MatchOption o (AreUnbroken t marks classes → AreUnbroken t marks new) (λ q. AreClashing t marks q.left.n q.right.n)
+  merged-answer a b to from new m None h = m.unbroken h
+  merged-answer a b to from new m (Some q) h = m.clash q h
+
+  pub are-below : AreBelow t classes
+  are-below = record { as_many = partial.as_many; below = below }
+
+  pub marked-together : (i j : ℕ) → is_marked marks true i j ≡ true → AreTogether t marks i j
+  marked-together i j h s u at_s at_u = stated s u (i, j, at_s, at_u, h)
 
   -- what is saturated and has the facts is closed
   pub saturated-closed : IsSaturated t classes
       → ((i j : ℕ) (s u : Term) → IsAt t.terms i s → IsAt t.terms j u → IsAsserted t.terms marks (Equal s u true) → class classes i ≡ class classes j)
-      → ((i j : ℕ) (s u : Term) → IsAt t.terms i s → IsAt t.terms j u → IsAsserted t.terms marks (Equal s u false) → class classes i ≢ class classes j)
       → AreClosed t.shape.schema (IsAsserted t.terms marks) t.terms classes
-  saturated-closed sat same apart = record {
-    as_many = partial.as_many;
-    below = partial.below;
+  saturated-closed sat same = record {
     stated = same;
-    same_images = λ i j k l s u f at_i at_j at_k at_l e.
-        (sat k (linked k (image_term s f) at_k) i f (link-of t table k i s f at_i at_k)).images l j (link-of t table l j u f at_j at_l) e;
-    image_of_undef = λ i k s f d known at_i at_k e. (sat k (linked k (image_term s f) at_k) i f (link-of t table k i s f at_i at_k)).undef d known e;
-    only_undef = λ i k s f d known total at_i at_k e. (sat k (linked k (image_term s f) at_k) i f (link-of t table k i s f at_i at_k)).total d known total e;
-    rigid = partial.rigid;
-    apart = apart;
-  }
-    where
-      linked : (k : ℕ) (s : Term) → IsAt t.terms k s → k < length t.links
-      linked k s at = rw table.links.as_many (slice_get_within t.terms k s at)
-
-  pub forced-step : (i j rigid : ℕ) (new : List ℕ) → IsForcedPair t classes i j → rigid ≡ rigid_count t → AreJoined classes new i j rigid → IsStep new
-  forced-step i j rigid new p e joined =
-      joined-step i j new p.left p.right (forced-together i j p.forced) (subst (λ (r : ℕ). AreJoined classes new i j r) e joined)
-
-  pub forced-clash : (i j rigid to from : ℕ) (new : List ℕ) → IsForcedPair t classes i j → rigid ≡ rigid_count t → AreRigid classes new i j rigid to from → AreClashing t marks to from
-  forced-clash i j rigid to from new p e joined =
-      joined-clash i j to from new p.left p.right (forced-together i j p.forced) (subst (λ (r : ℕ). AreRigid classes new i j r to from) e joined)
-
-  marked-together : (i j : ℕ) → is_marked marks true i j ≡ true → AreTogether t marks i j
-  marked-together i j h s u at_s at_u = stated s u (i, j, at_s, at_u, h)
-
-  relabelled-together : (i j to from : ℕ) → i < length t.terms → j < length t.terms → class classes i ≡ to → class classes j ≡ from
-      → class (relabelled from to classes) i ≡ class (relabelled from to classes) j
-  relabelled-together i j to from lt_i lt_j one two =
-      class-relabelled from to classes i (rw partial.as_many lt_i) ∙ lower (relabel_cases from to (class classes i)) ∙ sym (class-relabelled from to classes j (rw partial.as_many lt_j) ∙ upper (relabel_cases from to (class classes j)))
-    where
-      lower : ((class classes i ≡ from) × (cond (nat_eq (class classes i) from) to (class classes i) ≡ to)) ⊎ ((class classes i ≢ from) × (cond (nat_eq (class classes i) from) to (class classes i) ≡ class classes i))
-          → cond (nat_eq (class classes i) from) to (class classes i) ≡ to
-      lower (inl h) = h.1
-      lower (inr h) = h.1 ∙ one
-
-      upper : ((class classes j ≡ from) × (cond (nat_eq (class classes j) from) to (class classes j) ≡ to)) ⊎ ((class classes j ≢ from) × (cond (nat_eq (class classes j) from) to (class classes j) ≡ class classes j))
-          → cond (nat_eq (class classes j) from) to (class classes j) ≡ to
-      upper (inl h) = h.1
-      upper (inr h) = absurd (h.0 two)
-
-  pub united : (i j rigid : ℕ) (new : List ℕ) → i < length t.terms → j < length t.terms → is_marked marks true i j ≡ true → rigid ≡ rigid_count t
-      → AreJoined classes new i j rigid → IsUnited t marks classes new i j
-  united i j rigid new lt_i lt_j marked e joined =
-      let h = subst (λ (r : ℕ). AreJoined classes new i j r) e joined in
-      let s = joined-step i j new lt_i lt_j (marked-together i j marked) h in
-      record { partial = s.still; coarser = s.coarser; together = one_class h.ends.ends h.new_is }
-    where
-      one_class : {to from : ℕ} → ((class classes i ≡ to) × (class classes j ≡ from)) ⊎ ((class classes j ≡ to) × (class classes i ≡ from)) → new ≡ relabelled from to classes → class new i ≡ class new j
-      one_class {to = to} {from = from} (inl h) is = rw is (relabelled-together i j to from lt_i lt_j h.0 h.1)
-      one_class {to = to} {from = from} (inr h) is = rw is (sym (relabelled-together j i to from lt_j lt_i h.0 h.1))
-
-  pub united-clash : (i j rigid to from : ℕ) (new : List ℕ) → i < length t.terms → j < length t.terms → is_marked marks true i j ≡ true → rigid ≡ rigid_count t
-      → AreRigid classes new i j rigid to from → AreClashing t marks to from
-  united-clash i j rigid to from new lt_i lt_j marked e joined =
-      joined-clash i j to from new lt_i lt_j (marked-together i j marked) (subst (λ (r : ℕ). AreRigid classes new i j r to from) e joined)
-
-  -- two terms of one class that were asserted apart
-  pub broken-clash : (i j : ℕ) → marks.width ≡ length t.terms → IsBroken marks classes i j → AreClashing t marks i j
-  broken-clash i j w b = record {
-    left = rw (← w) b.left;
-    right = rw (← w) b.right;
-    together = λ s u at_s at_u. partial.sound i j s u at_s at_u b.same;
-    reason = inl b.marked;
+    same_images = λ i j k l s u f at_i at_j at_k at_l e. sat.images k l i j f (link-of t table k i s f at_i at_k) (link-of t table l j u f at_j at_l) e;
+    image_of_undef = λ i k s f d known at_i at_k e. (sat.undefs k i f (link-of t table k i s f at_i at_k)).undef d known e;
+    only_undef = λ i k s f d known total at_i at_k e. (sat.undefs k i f (link-of t table k i s f at_i at_k)).total d known total e;
   }
 
 module _ (t : TableParts) (table : IsTable t) (marks : MarkParts) (facts_fit : FactsFit t marks) where
-  clashing-rigid : (to from : ℕ) → to < rigid_count t → from < rigid_count t → to ≢ from → AreTogether t marks to from → Clash t.shape.schema t.problem.literals (IsAsserted t.terms marks)
-  clashing-rigid to from low high differ joined =
-      ⊎_elim
-      (λ (h : (from < t.shape.schema.sorts) × IsAt t.terms from (undef_term (record { n = from }))).
-      ⊎_elim
-      (λ (g : (to < t.shape.schema.sorts) × IsAt t.terms to (undef_term (record { n = to }))).
-      let same = together-sorted t.shape t.problem.rows t.problem.params table.schema t.problem.literals table.fit (IsAsserted t.terms marks) facts_fit
-      (joined (undef_term (record { n = to })) (undef_term (record { n = from })) g.1 h.1) in
-      let one = undef-sort t.shape t.problem.rows t.problem.params (record { n = to }) same.sort same.left in
-      let two = undef-sort t.shape t.problem.rows t.problem.params (record { n = from }) same.sort same.right in
-      absurd (differ (ap (λ (q : SortId). q.n) (one ∙ sym two))))
-      (λ (g : (c : ConstId) × (c.n < length t.shape.schema.constants) × (to ≡ t.shape.schema.sorts + c.n) × IsAt t.terms to (constant_term c)).
-      constant_undef g.0 (record { n = from }) (joined (constant_term g.0) (undef_term (record { n = from })) g.3 h.1))
-      (rigid_cases t table to low))
-      (λ (h : (c : ConstId) × (c.n < length t.shape.schema.constants) × (from ≡ t.shape.schema.sorts + c.n) × IsAt t.terms from (constant_term c)).
-      ⊎_elim
-      (λ (g : (to < t.shape.schema.sorts) × IsAt t.terms to (undef_term (record { n = to }))).
-      constant_undef h.0 (record { n = to }) (back (undef_term (record { n = to })) (constant_term h.0) (joined (undef_term (record { n = to })) (constant_term h.0) g.1 h.3)))
-      (λ (g : (c : ConstId) × (c.n < length t.shape.schema.constants) × (to ≡ t.shape.schema.sorts + c.n) × IsAt t.terms to (constant_term c)).
-      two_constants g.0 h.0 (λ (e : g.0 ≡ h.0). differ (g.2 ∙ ap (λ (q : ConstId). t.shape.schema.sorts + q.n) e ∙ sym h.2)) (joined (constant_term g.0) (constant_term h.0) g.3 h.3))
-      (rigid_cases t table to low))
-      (rigid_cases t table from high)
-
-  pub clashing-clash : (i j : ℕ) → AreClashing t marks i j → Clash t.shape.schema t.problem.literals (IsAsserted t.terms marks)
-  clashing-clash i j c = go c.reason
+  -- an undef and a constant, or two constants
+  rigid-conflict : (i j : ℕ) (s u : Term) → i < rigid_count t → j < rigid_count t → i ≢ j → IsAt t.terms i s → IsAt t.terms j u
+      → Together t.shape.schema t.problem.literals (IsAsserted t.terms marks) s u → Conflict (IsAsserted t.terms marks) s u
+  rigid-conflict i j s u lt_i lt_j differ at_s at_u together = go (rigid_cases t table i lt_i) (rigid_cases t table j lt_j)
     where
-      go : (is_marked marks false i j ≡ true) ⊎ ((i < rigid_count t) × (j < rigid_count t) × (i ≢ j)) → Clash t.shape.schema t.problem.literals (IsAsserted t.terms marks)
-      go (inl h) =
-          let s = term_at t.terms i c.left in
-          let u = term_at t.terms j c.right in
-          stated_apart s.0 u.0 (i, j, s.1, u.1, h) (c.together s.0 u.0 s.1 u.1)
-      go (inr h) = clashing-rigid i j h.0 h.1 h.2 c.together
+      go : ((i < t.shape.schema.sorts) × IsAt t.terms i (undef_term (record { n = i })))
+          ⊎ ((c : ConstId) × (c.n < length t.shape.schema.constants) × (i ≡ t.shape.schema.sorts + c.n) × IsAt t.terms i (constant_term c))
+          → ((j < t.shape.schema.sorts) × IsAt t.terms j (undef_term (record { n = j })))
+          ⊎ ((c : ConstId) × (c.n < length t.shape.schema.constants) × (j ≡ t.shape.schema.sorts + c.n) × IsAt t.terms j (constant_term c))
+          → Conflict (IsAsserted t.terms marks) s u
+      go (inl h) (inl g) =
+          let one = at-same t.terms i s (undef_term (record { n = i })) at_s h.1 in
+          let two = at-same t.terms j u (undef_term (record { n = j })) at_u g.1 in
+          let same = together-sorted t.shape t.problem.rows t.problem.params table.shape.schema t.problem.literals table.fits.literals (IsAsserted t.terms marks) facts_fit together in
+          let left = undef-sort t.shape t.problem.rows t.problem.params (record { n = i }) same.sort (subst (λ (w : Term). sort_of t.shape t.problem.rows t.problem.params w ≡ Some same.sort) one same.left) in
+          let right = undef-sort t.shape t.problem.rows t.problem.params (record { n = j }) same.sort (subst (λ (w : Term). sort_of t.shape t.problem.rows t.problem.params w ≡ Some same.sort) two same.right) in
+          absurd (differ (ap (λ (q : SortId). q.n) (left ∙ sym right)))
+      go (inl h) (inr g) =
+          rw (at-same t.terms i s (undef_term (record { n = i })) at_s h.1, at-same t.terms j u (constant_term g.0) at_u g.3) (undef_and_constant (record { n = i }) g.0)
+      go (inr h) (inl g) =
+          rw (at-same t.terms i s (constant_term h.0) at_s h.3, at-same t.terms j u (undef_term (record { n = j })) at_u g.1) (constant_and_undef h.0 (record { n = j }))
+      go (inr h) (inr g) =
+          rw (at-same t.terms i s (constant_term h.0) at_s h.3, at-same t.terms j u (constant_term g.0) at_u g.3)
+          (constants h.0 g.0 (λ (e : h.0 ≡ g.0). differ (h.2 ∙ ap (λ (q : ConstId). t.shape.schema.sorts + q.n) e ∙ sym g.2)))
+
+  -- two terms that clash can't be the same
+  pub clashing-conflict : (i j : ℕ) (s u : Term) → AreClashing t marks i j → IsAt t.terms i s → IsAt t.terms j u → Conflict (IsAsserted t.terms marks) s u
+  clashing-conflict i j s u c at_s at_u =
+      ⊎_elim (λ (h : is_marked marks false i j ≡ true). asserted_apart s u (i, j, at_s, at_u, h))
+      (λ (h : (i < rigid_count t) × (j < rigid_count t) × (i ≢ j)). rigid-conflict i j s u h.0 h.1 h.2 at_s at_u (c.together s u at_s at_u)) c.reason
+
+-- what must be the same, and can't be, clashes
+pub conflict-clash : (schema : SchemaParts) (literals : List Literal) (IsFact : Literal → Type 0) {s u : Term} → Together schema literals IsFact s u → Conflict IsFact s u
+    → Clash schema literals IsFact
+conflict-clash schema literals IsFact together (asserted_apart s u fact) = stated_apart s u fact together
+conflict-clash schema literals IsFact together (constants a b differ) = two_constants a b differ together
+conflict-clash schema literals IsFact together (constant_and_undef a s) = constant_undef a s together
+conflict-clash schema literals IsFact together (undef_and_constant s a) = constant_undef a s (back (undef_term s) (constant_term a) together)

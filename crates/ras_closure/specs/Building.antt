@@ -7,8 +7,7 @@ use Rattle.ras_closure.specs.declared.link.Link.{Link}
 use Rattle.ras_closure.specs.declared.link.Link.TheVariants.{Base, Image}
 use Rattle.ras_logic.specs.Terms.{constant_term, undef_term, image_term}
 use Rattle.ras_logic.specs.Clashes.{IsTerm}
-use Rattle.ras_closure.specs.Models.{IsAt}
-use Rattle.ras_closure.specs.Saturation.{AreLinks}
+use Rattle.ras_closure.specs.Numbered.{IsAt, AreLinks}
 
 -- the first terms: every sort's undef, then the constants
 abbrev pub fixed_term : ℕ → ℕ → Term

@@ -1,14 +1,22 @@
-use Rattle.std.specs.Prelude.{◌≡◌, ℕ, ◌<◌, Bool, List, length, Option, Some, None}
+-- What a closure is: the terms of a problem, what was asserted of them, their classes, and the clash if there is one.
+use Rattle.std.specs.Prelude.{◌≡◌, ◌≢◌, ℕ, ◌<◌, ◌⊎◌, ◌↔◌, Bool, false, List, length, Option, Some, IsTrue}
 use Rattle.ras_logic.specs.declared.ids.SortId.{SortId}
+use Rattle.ras_logic.specs.declared.ids.ConstId.{ConstId}
+use Rattle.ras_logic.specs.declared.raw_db.RawDb.{RawDb}
+use Rattle.ras_logic.specs.declared.values.Values.{Values}
 use Rattle.ras_logic.specs.declared.term.Term.{Term}
 use Rattle.ras_logic.specs.declared.literal.Literal.{Literal}
-use Rattle.ras_logic.specs.Terms.{sort_of}
-use Rattle.ras_closure.specs.declared.pair.Clash.{Clash}
-use Rattle.ras_closure.specs.declared.pair.TermNo.{TermNo}
-use Rattle.ras_closure.specs.TableParts.{TableParts}
-use Rattle.ras_closure.specs.Facts.{MarkParts, IsAsserted, AddsMark}
-use Rattle.ras_closure.specs.Models.{IsAt, AreClosed}
-use Rattle.ras_closure.specs.Saturation.{ArePartial, FactsFit, AreClashing}
+use Rattle.ras_logic.specs.declared.literal.Literal.TheVariants.{Equal}
+use Rattle.ras_logic.specs.Databases.{IsDatabase}
+use Rattle.ras_logic.specs.Terms.{sort_of, constant_term, undef_term}
+use Rattle.ras_logic.specs.Truth.{AreValues, holds, value}
+use Rattle.ras_logic.specs.Clashes.{Together, Clash as TheyClash}
+use Rattle.ras_closure.specs.declared.clash.Clash.{Clash}
+use Rattle.ras_closure.specs.declared.term_no.TermNo.{TermNo}
+use Rattle.ras_closure.specs.Numbered.{IsAt, TableParts}
+use Rattle.ras_closure.specs.Assertions.{MarkParts, IsAsserted, FactsFit}
+use Rattle.ras_closure.specs.Classes.{class, AreClosed}
+use Rattle.ras_closure.specs.Saturation.{ArePartial, IsVerdict}
 
 pub record ClosureParts : Type 0 where
   pub table : TableParts
@@ -16,32 +24,78 @@ pub record ClosureParts : Type 0 where
   pub classes : List ℕ
   pub clash : Option Clash
 
-abbrev pub terms_of : ClosureParts → List Term
-terms_of c = c.table.terms
-
--- what was asserted
+-- the literal was asserted
 abbrev pub IsFactOf : ClosureParts → Literal → Type 0
 IsFactOf c = IsAsserted c.table.terms c.marks
 
--- The facts fit; without a clash the classes are a closed relation; a clash names two terms that clash.
-pub record IsClosure (c : ClosureParts) : Type 0 where
-  pub width : c.marks.width ≡ length c.table.terms
-  pub facts_fit : FactsFit c.table c.marks
-  pub as_many : length c.classes ≡ length c.table.terms
-  pub partial : c.clash ≡ None → ArePartial c.table c.marks c.classes
-  pub closed : c.clash ≡ None → AreClosed c.table.shape.schema (IsFactOf c) c.table.terms c.classes
-  pub clashing : (q : Clash) → c.clash ≡ Some q → AreClashing c.table c.marks q.left.n q.right.n
+-- what was asserted puts the two terms together
+abbrev pub AreTogetherIn : ClosureParts → Term → Term → Type 0
+AreTogetherIn c = Together c.table.shape.schema c.table.problem.literals (IsFactOf c)
+
+-- what was asserted clashes
+abbrev pub FactsClashIn : ClosureParts → Type 0
+FactsClashIn c = TheyClash c.table.shape.schema c.table.problem.literals (IsFactOf c)
 
 -- the number of a term
 abbrev pub IsNo : ClosureParts → TermNo → Type 0
 IsNo c t = t.n < length c.table.terms
 
--- two terms of one sort
-abbrev pub IsOneSort : ClosureParts → TermNo → TermNo → Type 0
-IsOneSort c i j = (s u : Term) → IsAt c.table.terms i.n s → IsAt c.table.terms j.n u
-    → (sort : SortId) × (sort_of c.table.shape c.table.problem.rows c.table.problem.params s ≡ Some sort) × (sort_of c.table.shape c.table.problem.rows c.table.problem.params u ≡ Some sort)
+-- the sort of a term
+abbrev pub HasSortIn : ClosureParts → Term → SortId → Type 0
+HasSortIn c t s = sort_of c.table.shape c.table.problem.rows c.table.problem.params t ≡ Some s
+
+-- the terms of these numbers have one sort
+abbrev pub AreOfOneSort : ClosureParts → TermNo → TermNo → Type 0
+AreOfOneSort c i j = (s t : Term) → IsAt c.table.terms i.n s → IsAt c.table.terms j.n t → (sort : SortId) × HasSortIn c s sort × HasSortIn c t sort
+
+-- The classes are those of what was asserted, which fits; without a clash they are unbroken, and a clash names two terms
+-- that clash.
+pub record IsClosure (c : ClosureParts) : Type 0 where
+  pub width : c.marks.width ≡ length c.table.terms
+  pub facts_fit : FactsFit c.table c.marks
+  pub partial : ArePartial c.table c.marks c.classes
+  pub closed : AreClosed c.table.shape.schema (IsFactOf c) c.table.terms c.classes
+  pub verdict : IsVerdict c.table c.marks c.classes c.clash
+
+-- the literal says of the terms of these numbers that they are the same, or that they are not
+abbrev pub IsLiteralOf : ClosureParts → Bool → TermNo → TermNo → Literal → Type 0
+IsLiteralOf c same i j l = (s : Term) × (t : Term) × IsAt c.table.terms i.n s × IsAt c.table.terms j.n t × (l ≡ Equal s t same)
 
 -- one more fact
 pub record AddsFact (old new : ClosureParts) (same : Bool) (i j : TermNo) : Type 0 where
   pub table : new.table ≡ old.table
-  pub marks : AddsMark old.marks new.marks same i.n j.n
+  pub facts : (l : Literal) → IsFactOf new l ↔ (IsFactOf old l ⊎ IsLiteralOf old same i j l)
+
+-- every fact holds
+abbrev pub EachHolds : RawDb → Values → (Literal → Type 0) → Type 0
+EachHolds d v IsFact = (l : Literal) → IsFact l → IsTrue (holds d v l)
+
+-- no database and values satisfy what was asserted
+abbrev pub HasNoModel : ClosureParts → Type 0
+HasNoModel c = (d : RawDb) (v : Values) → IsDatabase c.table.shape.schema d
+    → AreValues c.table.shape d c.table.problem.rows c.table.problem.params v → EachHolds d v (IsFactOf c) → ⊥
+
+-- why two terms can't be the same: they were asserted apart, or are two constants, or a constant and undef
+pub data Conflict (IsFact : Literal → Type 0) : Term → Term → Type 0 where
+  asserted_apart : (s t : Term) → IsFact (Equal s t false) → Conflict IsFact s t
+  constants : (a b : ConstId) → a ≢ b → Conflict IsFact (constant_term a) (constant_term b)
+  constant_and_undef : (a : ConstId) (s : SortId) → Conflict IsFact (constant_term a) (undef_term s)
+  undef_and_constant : (s : SortId) (a : ConstId) → Conflict IsFact (undef_term s) (constant_term a)
+
+-- two terms that must be the same, and can't be
+pub record NamesConflict (c : ClosureParts) (q : Clash) : Type 0 where
+  pub s : Term
+  pub t : Term
+  pub left : IsAt c.table.terms q.left.n s
+  pub right : IsAt c.table.terms q.right.n t
+  pub together : AreTogetherIn c s t
+  pub conflict : Conflict (IsFactOf c) s t
+
+-- A database and values in which all that was asserted holds, and in which terms of one sort and of different classes have
+-- different values.
+pub record IsModelOf (c : ClosureParts) (d : RawDb) (v : Values) : Type 0 where
+  pub database : IsDatabase c.table.shape.schema d
+  pub values : AreValues c.table.shape d c.table.problem.rows c.table.problem.params v
+  pub facts : EachHolds d v (IsFactOf c)
+  pub apart : (i j : ℕ) (s t : Term) (sort : SortId) → IsAt c.table.terms i s → IsAt c.table.terms j t → HasSortIn c s sort → HasSortIn c t sort
+      → value d v s ≡ value d v t → class c.classes i ≡ class c.classes j

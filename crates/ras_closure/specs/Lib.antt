@@ -1,7 +1,8 @@
-pub mod Models
-pub mod TableParts
-pub mod Facts
+pub mod Numbered
+pub mod Assertions
+pub mod Classes
 pub mod Saturation
 pub mod Closures
+pub mod Models
 pub mod ModelParts
 pub mod Building

@@ -1,39 +1,13 @@
-use Rattle.std.specs.Prelude.{◌≡◌, ◌≢◌, ℕ, ◌+◌, ◌<◌, ◌≤◌, true, false, List, [], length, slice_get, Some, All, map, nat_eq, if◌then◌else◌, ◌⊎◌}
+-- How the classes of what was asserted are found: two classes are merged as long as a rule for functions asks for it.
+use Rattle.std.specs.Prelude.{◌≡◌, ◌≢◌, ℕ, ◌+◌, ◌*◌, ◌<◌, ◌≤◌, ◌⊎◌, true, false, List, length, get_or, slice_get, Option, Some, None}
 use Rattle.ras_logic.specs.declared.ids.FunId.{FunId}
 use Rattle.ras_logic.specs.declared.function.FunDecl.{FunDecl}
 use Rattle.ras_logic.specs.declared.term.Term.{Term}
-use Rattle.ras_logic.specs.declared.literal.Literal.{Literal}
-use Rattle.ras_logic.specs.Schemas.{SchemaParts, IsSchema}
-use Rattle.ras_logic.specs.Formulas.{LiteralFits}
-use Rattle.ras_closure.specs.declared.link.Link.{Link}
-use Rattle.ras_closure.specs.declared.link.Link.TheVariants.{Base, Image}
-use Rattle.ras_logic.specs.Terms.{image_term}
-use Rattle.ras_closure.specs.TableParts.{TableParts}
-use Rattle.ras_closure.specs.Facts.{MarkParts, IsAsserted, is_marked}
 use Rattle.ras_logic.specs.Clashes.{Together}
-use Rattle.ras_closure.specs.Models.{class, IsAt, AreTerms, AreSound}
-
-abbrev pub IsImageLink : List Link → ℕ → ℕ → FunId → Type 0
-IsImageLink links i of f = slice_get links i ≡ Some (Image of f)
-
--- for each term that it is a base, or of which other term it is the image
-pub record AreLinks (schema : SchemaParts) (terms : List Term) (links : List Link) : Type 0 where
-  pub as_many : length links ≡ length terms
-  pub bases : (i : ℕ) (t : Term) → IsAt terms i t → slice_get links i ≡ Some Base → t.path ≡ []
-  pub of_terms : (i of : ℕ) (f : FunId) → IsImageLink links i of f → of < length terms
-  pub of_functions : (i of : ℕ) (f : FunId) → IsImageLink links i of f → f.n < length schema.functions
-  pub images : (i of : ℕ) (f : FunId) (s : Term) → IsImageLink links i of f → IsAt terms of s → IsAt terms i (image_term s f)
-
-pub record IsTable (t : TableParts) : Type 0 where
-  pub schema : IsSchema t.shape.schema
-  pub fit : All (LiteralFits t.shape t.problem.rows t.problem.params) t.problem.literals
-  pub terms : AreTerms t.shape.schema t.problem.literals t.terms
-  pub links : AreLinks t.shape.schema t.terms t.links
-  pub few : length t.terms < 4294967295
-
--- how many terms are undef or a constant
-abbrev pub rigid_count : TableParts → ℕ
-rigid_count t = t.shape.schema.sorts + length t.shape.schema.constants
+use Rattle.ras_closure.specs.declared.clash.Clash.{Clash}
+use Rattle.ras_closure.specs.Numbered.{IsAt, IsImageLink, TableParts, rigid_count}
+use Rattle.ras_closure.specs.Assertions.{MarkParts, IsAsserted, is_marked}
+use Rattle.ras_closure.specs.Classes.{class, AreSound, Coarsens}
 
 -- two terms that a rule puts together
 pub data Forced (t : TableParts) (classes : List ℕ) : ℕ → ℕ → Type 0 where
@@ -49,70 +23,61 @@ pub record IsForcedPair (t : TableParts) (classes : List ℕ) (i j : ℕ) : Type
   pub left : i < length t.terms
   pub right : j < length t.terms
 
--- no rule asks more of the image by that function, of that term
-pub record IsSaturatedAs (t : TableParts) (classes : List ℕ) (i of : ℕ) (f : FunId) : Type 0 where
-  pub images : (j of2 : ℕ) → IsImageLink t.links j of2 f → class classes of ≡ class classes of2 → class classes i ≡ class classes j
-  pub undef : (d : FunDecl) → slice_get t.shape.schema.functions f.n ≡ Some d → class classes of ≡ class classes d.source.n → class classes i ≡ class classes d.target.n
-  pub total : (d : FunDecl) → slice_get t.shape.schema.functions f.n ≡ Some d → d.total ≡ true → class classes i ≡ class classes d.target.n → class classes of ≡ class classes d.source.n
-
-abbrev pub IsSaturatedAt : TableParts → List ℕ → ℕ → Type 0
-IsSaturatedAt t classes i = (of : ℕ) (f : FunId) → IsImageLink t.links i of f → IsSaturatedAs t classes i of f
-
-abbrev pub IsSaturated : TableParts → List ℕ → Type 0
-IsSaturated t classes = (i : ℕ) → i < length t.links → IsSaturatedAt t classes i
-
--- classes on the way: each number that of a term, the undefs and constants apart, and what is in one class together
-pub record ArePartial (t : TableParts) (marks : MarkParts) (classes : List ℕ) : Type 0 where
-  pub as_many : length classes ≡ length t.terms
-  pub below : (i : ℕ) → i < length t.terms → class classes i < length t.terms
-  pub rigid : (k : ℕ) → k < rigid_count t → class classes k ≡ k
-  pub sound : AreSound t.shape.schema t.problem.literals (IsAsserted t.terms marks) t.terms classes
-
--- what was in one class still is
-abbrev pub Coarsens : List ℕ → List ℕ → Type 0
-Coarsens old new = (i j : ℕ) → i < length old → j < length old → class old i ≡ class old j → class new i ≡ class new j
-
-abbrev pub relabelled : ℕ → ℕ → List ℕ → List ℕ
-relabelled from to classes = map (λ c. if nat_eq c from then to else c) classes
-
--- the image by the same function of a term of the same class, in another class
-pub record IsUnlike (t : TableParts) (classes : List ℕ) (i of : ℕ) (f : FunId) (j : ℕ) : Type 0 where
-  pub of2 : ℕ
-  pub link : IsImageLink t.links j of2 f
-  pub arguments : class classes of ≡ class classes of2
-  pub differ : class classes i ≢ class classes j
-
--- no image below the number is unlike the image i
-abbrev pub AreLike : TableParts → List ℕ → ℕ → ℕ → FunId → ℕ → Type 0
-AreLike t classes i of f n = (j of2 : ℕ) → j < n → IsImageLink t.links j of2 f → class classes of ≡ class classes of2 → class classes i ≡ class classes j
-
--- the two rules for undef
+-- the two rules for undef ask for nothing more at the image i
 pub record AreUndefRules (t : TableParts) (classes : List ℕ) (i of : ℕ) (f : FunId) : Type 0 where
   pub undef : (d : FunDecl) → slice_get t.shape.schema.functions f.n ≡ Some d → class classes of ≡ class classes d.source.n → class classes i ≡ class classes d.target.n
   pub total : (d : FunDecl) → slice_get t.shape.schema.functions f.n ≡ Some d → d.total ≡ true → class classes i ≡ class classes d.target.n → class classes of ≡ class classes d.source.n
 
--- the classes of two terms, the smaller number first
-pub record AreEnds (classes : List ℕ) (a b to from : ℕ) : Type 0 where
-  pub ends : ((class classes a ≡ to) × (class classes b ≡ from)) ⊎ ((class classes b ≡ to) × (class classes a ≡ from))
-  pub less : to < from
+-- no rule asks for more
+pub record IsSaturated (t : TableParts) (classes : List ℕ) : Type 0 where
+  pub images : (i j of of2 : ℕ) (f : FunId) → IsImageLink t.links i of f → IsImageLink t.links j of2 f → class classes of ≡ class classes of2 → class classes i ≡ class classes j
+  pub undefs : (i of : ℕ) (f : FunId) → IsImageLink t.links i of f → AreUndefRules t classes i of f
 
--- two classes became one
-pub record AreJoined (old new : List ℕ) (a b rigid : ℕ) : Type 0 where
-  pub to : ℕ
-  pub from : ℕ
-  pub ends : AreEnds old a b to from
-  pub above : rigid ≤ from
-  pub new_is : new ≡ relabelled from to old
+-- for each function and class an image that was met, if one was
+pub record SignatureParts : Type 0 where
+  pub functions : ℕ
+  pub width : ℕ
+  pub images : List ℕ
 
--- two classes, both of an undef or a constant, that would be one
-pub record AreRigid (old new : List ℕ) (a b rigid to from : ℕ) : Type 0 where
-  pub ends : AreEnds old a b to from
-  pub low : from < rigid
-  pub unchanged : new ≡ old
+abbrev pub signature : SignatureParts → ℕ → ℕ → ℕ
+signature s f c = get_or s.images (f * s.width + c) 0
 
--- what was asserted fits the shape
-abbrev pub FactsFit : TableParts → MarkParts → Type 0
-FactsFit t marks = (l : Literal) → IsAsserted t.terms marks l → LiteralFits t.shape t.problem.rows t.problem.params l
+-- the term is an image by the function of a term of the class
+pub record IsImageOf (t : TableParts) (classes : List ℕ) (f : FunId) (c k : ℕ) : Type 0 where
+  pub of : ℕ
+  pub link : IsImageLink t.links k of f
+  pub argument : class classes of ≡ c
+
+-- an image was met, and what had been met is still found
+pub record MeetsImage (t : TableParts) (classes : List ℕ) (old new : SignatureParts) (f : FunId) (c k : ℕ) : Type 0 where
+  pub functions : new.functions ≡ old.functions
+  pub width : new.width ≡ old.width
+  pub here : signature new f.n c ≡ k
+  pub image : IsImageOf t classes f c k
+  pub kept : (g : FunId) (d : ℕ) → d < old.width → IsImageOf t classes g d (signature old g.n d) → signature new g.n d ≡ signature old g.n d
+
+-- the image i is in the class of the image that is found for it
+pub record IsMet (t : TableParts) (classes : List ℕ) (s : SignatureParts) (i of : ℕ) (f : FunId) : Type 0 where
+  pub found : IsImageOf t classes f (class classes of) (signature s f.n (class classes of))
+  pub alike : class classes i ≡ class classes (signature s f.n (class classes of))
+  pub undefs : AreUndefRules t classes i of f
+
+-- each image below the number was met
+abbrev pub AreMet : TableParts → List ℕ → SignatureParts → ℕ → Type 0
+AreMet t classes s n = (i of : ℕ) (f : FunId) → i < n → IsImageLink t.links i of f → IsMet t classes s i of f
+
+-- each term has a class that is the number of a term
+pub record AreBelow (t : TableParts) (classes : List ℕ) : Type 0 where
+  pub as_many : length classes ≡ length t.terms
+  pub below : (i : ℕ) → i < length t.terms → class classes i < length t.terms
+
+-- Classes on the way: a class has the number of one of its terms, which is none but the first ones', and terms of one class
+-- are together.
+pub record ArePartial (t : TableParts) (marks : MarkParts) (classes : List ℕ) : Type 0 where
+  pub as_many : length classes ≡ length t.terms
+  pub low : (i : ℕ) → i < length t.terms → class classes i ≤ i
+  pub own : (i : ℕ) → i < length t.terms → class classes (class classes i) ≡ class classes i
+  pub sound : AreSound t.shape.schema t.problem.literals (IsAsserted t.terms marks) t.terms classes
 
 -- the terms of these numbers must be the same
 abbrev pub AreTogether : TableParts → MarkParts → ℕ → ℕ → Type 0
@@ -125,34 +90,53 @@ pub record AreClashing (t : TableParts) (marks : MarkParts) (i j : ℕ) : Type 0
   pub together : AreTogether t marks i j
   pub reason : (is_marked marks false i j ≡ true) ⊎ ((i < rigid_count t) × (j < rigid_count t) × (i ≢ j))
 
+-- undef and the constants have classes of their own, and terms that were asserted apart are in two classes
+pub record AreUnbroken (t : TableParts) (marks : MarkParts) (classes : List ℕ) : Type 0 where
+  pub rigid : (k : ℕ) → k < rigid_count t → class classes k ≡ k
+  pub apart : (i j : ℕ) → i < marks.width → j < marks.width → is_marked marks false i j ≡ true → class classes i ≢ class classes j
+
+-- without a clash the classes are unbroken, and a clash names two terms that clash
+pub record IsVerdict (t : TableParts) (marks : MarkParts) (classes : List ℕ) (clash : Option Clash) : Type 0 where
+  pub unbroken : clash ≡ None → AreUnbroken t marks classes
+  pub clashing : (q : Clash) → clash ≡ Some q → AreClashing t marks q.left.n q.right.n
+
+-- a term of one class and one of the other were asserted apart
+pub record AreParted (marks : MarkParts) (classes : List ℕ) (a b i j : ℕ) : Type 0 where
+  pub marked : is_marked marks false i j ≡ true
+  pub left : i < marks.width
+  pub right : j < marks.width
+  pub ends : ((class classes i ≡ a) × (class classes j ≡ b)) ⊎ ((class classes i ≡ b) × (class classes j ≡ a))
+
+-- the two were not asserted apart, in either order
+pub record IsUnmarked (marks : MarkParts) (i j : ℕ) : Type 0 where
+  pub forth : is_marked marks false i j ≡ true → ⊥
+  pub back : is_marked marks false j i ≡ true → ⊥
+
+-- the term was asserted apart from none of the class, of those below the number
+abbrev pub IsUnparted : MarkParts → List ℕ → ℕ → ℕ → ℕ → Type 0
+IsUnparted marks classes i b n = (j : ℕ) → j < n → class classes j ≡ b → IsUnmarked marks i j
+
+-- no term of the one class, of those below the number, was asserted apart from one of the other class
+abbrev pub AreUnparted : MarkParts → List ℕ → ℕ → ℕ → ℕ → Type 0
+AreUnparted marks classes a b n = (i : ℕ) → i < n → class classes i ≡ a → IsUnparted marks classes i b marks.width
+
+-- the classes may become one
+pub record MayMerge (t : TableParts) (marks : MarkParts) (classes : List ℕ) (to from : ℕ) : Type 0 where
+  pub above : rigid_count t ≤ from
+  pub unparted : AreUnparted marks classes to from marks.width
+
+-- two undefs or constants, or terms of the two classes that were asserted apart
+abbrev pub AreBreaking : TableParts → MarkParts → List ℕ → ℕ → ℕ → Clash → Type 0
+AreBreaking t marks classes to from q =
+    ((from < rigid_count t) × (q.left.n ≡ to) × (q.right.n ≡ from)) ⊎ AreParted marks classes to from q.left.n q.right.n
+
 -- the saturation's end
 pub record IsRest (t : TableParts) (marks : MarkParts) (old new : List ℕ) : Type 0 where
   pub partial : ArePartial t marks new
   pub saturated : IsSaturated t new
   pub coarser : Coarsens old new
 
--- the two terms were asserted apart, and are in one class
-pub record IsBroken (marks : MarkParts) (classes : List ℕ) (i j : ℕ) : Type 0 where
-  pub marked : is_marked marks false i j ≡ true
-  pub same : class classes i ≡ class classes j
-  pub left : i < marks.width
-  pub right : j < marks.width
-
--- the term is in no class with one that it was asserted apart from, below that number
-abbrev pub IsUnbrokenTo : MarkParts → List ℕ → ℕ → ℕ → Type 0
-IsUnbrokenTo marks classes i n = (j : ℕ) → j < n → is_marked marks false i j ≡ true → class classes i ≢ class classes j
-
-abbrev pub IsUnbroken : MarkParts → List ℕ → ℕ → Type 0
-IsUnbroken marks classes i = IsUnbrokenTo marks classes i marks.width
-
--- all is done after two terms were asserted the same
-pub record IsSettled (t : TableParts) (marks : MarkParts) (old new : List ℕ) (i j : ℕ) : Type 0 where
-  pub rest : IsRest t marks old new
-  pub together : class new i ≡ class new j
-  pub unbroken : (k : ℕ) → k < marks.width → IsUnbroken marks new k
-
--- two terms came into one class
-pub record IsUnited (t : TableParts) (marks : MarkParts) (old new : List ℕ) (i j : ℕ) : Type 0 where
-  pub partial : ArePartial t marks new
-  pub coarser : Coarsens old new
-  pub together : class new i ≡ class new j
+-- what was met before is still found, and the image i is met too
+pub record MeetsAt (t : TableParts) (classes : List ℕ) (old new : SignatureParts) (i : ℕ) : Type 0 where
+  pub here : (of : ℕ) (f : FunId) → IsImageLink t.links i of f → IsMet t classes new i of f
+  pub kept : (g : FunId) (d : ℕ) → d < old.width → IsImageOf t classes g d (signature old g.n d) → signature new g.n d ≡ signature old g.n d

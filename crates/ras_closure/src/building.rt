@@ -1,6 +1,6 @@
 ghost use Rattle.std.specs.Prelude.{◌≡◌, ℕ, ◌+◌, ◌<◌, ◌≤◌, length, take, slice_get, Some, IfOk, OnOk, List, MatchOption, All, ◌++◌, ◌∷◌, []};
 ghost use Rattle.ras_logic.specs.Clashes.{IsTerm};
-ghost use Rattle.ras_closure.specs.Models.{IsAt};
+ghost use Rattle.ras_closure.specs.Numbered.{IsAt};
 ghost use Rattle.ras_closure.specs.Building.{IsPart, Grows, LinkFits, prefix_at, HasPrefixes, HasSides, HaveSides, HasFunctions, SidesKnown, AreFixed, fixed_term, left_of, right_of};
 ghost use Rattle.ras_logic.specs.Formulas.{LiteralFits};
 

@@ -1,44 +1,51 @@
-ghost use Rattle.std.specs.Prelude.{◌≡◌, ◌≢◌, ◌↔◌, ◌+◌, ◌<◌, length, slice_get, Some, None, IsTrue, true, false, OnOk, OnErr, IfErr, IfOk, All, MatchOption, ℕ};
-ghost use Rattle.ras_closure.specs.declared.pair.Clash.{Clash};
-ghost use Rattle.ras_closure.specs.Models.{class, IsAt};
-ghost use Rattle.ras_logic.specs.Formulas.{LiteralFits};
+ghost use Rattle.std.specs.Prelude.{◌≡◌, ◌↔◌, ◌<◌, ℕ, length, Some, None, IsTrue, IsSome, IsErr, true, false, OnOk, IfErr, IfOk, IfSome};
 ghost use Rattle.ras_logic.specs.declared.literal.Literal.{Literal};
-ghost use Rattle.ras_closure.specs.ModelParts.{IsUsual, IsModelOf};
-ghost use Rattle.ras_closure.specs.Closures.{ClosureParts, IsClosure, IsOneSort, AddsFact, IsNo, IsFactOf};
+ghost use Rattle.ras_logic.specs.declared.term.Term.{Term};
+ghost use Rattle.ras_logic.specs.Formulas.{Fits};
+ghost use Rattle.ras_logic.specs.Clashes.{IsTerm};
+ghost use Rattle.ras_closure.specs.declared.clash.Clash.{Clash};
+ghost use Rattle.ras_closure.specs.Numbered.{IsAt, IsTable};
+ghost use Rattle.ras_closure.specs.Classes.{class};
+ghost use Rattle.ras_closure.specs.Closures.{ClosureParts, IsClosure, AreOfOneSort, AddsFact, IsNo, IsFactOf, AreTogetherIn, FactsClashIn, HasNoModel, NamesConflict, IsModelOf};
 
-use crate::classes::{numbers_to, saturate, settle};
+use crate::clash::Clash;
+use crate::classes::Classes;
 use crate::marks::Marks;
-use crate::model::{FiniteModel, model_of};
-use crate::pair::{Clash, TermNo};
+use crate::saturation::{saturate, unite};
+use crate::signatures::Signatures;
 use crate::table::TermTable;
+use crate::term_no::TermNo;
 use ras_logic::{Problem, Shape, Term};
 use std::alloc::{AllocError, Global};
 use std::marker::Model;
 
-/// The terms of a problem, what was asserted of them, and which are together.
+/// The terms of a problem, what was asserted of them, and which of them are the same by it.
 #[derive(Debug, Drop)]
 pub struct Closure {
     table: TermTable,
     marks: Marks,
-    classes: Vec<u32>,
+    classes: Classes,
+    signatures: Signatures,
     clash: Option<Clash>,
 }
 
 impl Model for Closure {
+    ghost use Rattle.std.specs.Prelude.{◌≡◌, length};
     ghost use Rattle.ras_closure.specs.Closures.{ClosureParts, IsClosure};
 
     ghost Value = { ClosureParts };
 
-    ghost view = { λ c. record { table = c.table; marks = c.marks; classes = c.classes.items; clash = c.clash } };
+    ghost view = { λ c. record { table = c.table; marks = c.marks; classes = c.classes; clash = c.clash } };
 
-    ghost invariant = { λ c. IsClosure (record { table = c.table; marks = c.marks; classes = c.classes.items; clash = c.clash }) };
+    ghost invariant = { λ c. IsClosure (record { table = c.table; marks = c.marks; classes = c.classes; clash = c.clash })
+        × (c.signatures.width ≡ length c.table.terms) × (c.signatures.functions ≡ length c.table.shape.schema.functions) };
 }
 
 impl Closure {
-    /// A closure over the terms of a problem, of which nothing is asserted yet.
+    /// A closure over the terms of a problem that fits the shape, with their prefixes, every constant and every sort's
+    /// undef. Nothing is asserted yet; all memory for later assertions is taken now.
     pub fn with(alloc: Global, shape: &Shape, problem: &Problem) -> Result<Closure, AllocError>
-        requires fit { All (LiteralFits shape.now problem.now.rows problem.now.params) problem.now.literals }
-        requires few { length shape.now.schema.constants < 65536 }
+        requires { Fits shape.now problem.now }
         ensures shape { IfOk result (λ c. c.table.shape ≡ shape.now) }
         ensures problem { IfOk result (λ c. c.table.problem ≡ problem.now) }
         ensures none { IfOk result (λ c. (l : Literal) → IsFactOf c l → ⊥) }
@@ -46,63 +53,98 @@ impl Closure {
     {
         let table = TermTable::new(alloc, shape, problem)?;
         table.known();
-        let marks = Marks::new(alloc, table.len())?;
-        let mut classes = numbers_to(alloc, table.len())?;
-        match saturate(&table, &marks, &mut classes) {
-            None => Ok(Closure {
-                table,
-                marks,
-                classes,
-                clash: None,
-            }),
-            Some(pair) => {
-                let clash = pair.clash();
-                Ok(Closure {
-                    table,
-                    marks,
-                    classes,
-                    clash: Some(clash),
-                })
-            }
-        }
+        let terms = table.len();
+        let marks = Marks::new(alloc, terms)?;
+        let mut classes = Classes::new(alloc, terms)?;
+        let mut signatures = Signatures::new(alloc, table.function_count(), terms)?;
+        let clash = saturate(&table, &marks, &mut classes, &mut signatures, None);
+        Ok(Closure {
+            table,
+            marks,
+            classes,
+            signatures,
+            clash,
+        })
+    }
+
+    /// A closure with the same terms under the same numbers and the same assertions, in memory of its own.
+    pub fn copy(&self, alloc: Global) -> Result<Closure, AllocError>
+        ensures { IfOk result (λ c. c ≡ self.now) }
+    {
+        let table = self.table.copy(alloc)?;
+        let marks = self.marks.copy()?;
+        let classes = self.classes.copy()?;
+        let signatures = Signatures::new(alloc, table.function_count(), table.len())?;
+        Ok(Closure {
+            table,
+            marks,
+            classes,
+            signatures,
+            clash: self.clash,
+        })
     }
 
     /// What every closure keeps.
     pub fn known(&self)
-        ensures { IsClosure self.now }
+        ensures table { IsTable self.now.table }
+        ensures closure { IsClosure self.now }
     {
-        let _ = &self.clash;
+        self.table.known();
     }
 
-    /// The class of a term.
+    /// The number of a term, if it is one of the closure's.
+    pub fn term(&self, term: &Term) -> Option<TermNo>
+        ensures known { IsSome result ↔ IsTerm self.now.table.shape.schema self.now.table.problem.literals term.now }
+        ensures number { IfSome result (λ no. IsAt self.now.table.terms no.n term.now) }
+    {
+        self.table.known();
+        let i = self.table.find(term)?;
+        Some(TermNo { n: i as u32 })
+    }
+
+    /// Whether two terms have one sort.
+    pub fn are_of_one_sort(&self, left: TermNo, right: TermNo) -> bool
+        requires left { IsNo self.now left }
+        requires right { IsNo self.now right }
+        ensures { IsTrue result ↔ AreOfOneSort self.now left right }
+    {
+        let left_sort = self.table.sort(left.n as usize);
+        let right_sort = self.table.sort(right.n as usize);
+        left_sort == right_sort
+    }
+
+    /// The class of a term: two terms have one class exactly where they are the same by what was asserted.
     pub fn class_of(&self, term: TermNo) -> u32
         requires { IsNo self.now term }
-        ensures { result ≡ class self.now.classes term.n }
+        ensures class { result ≡ class self.now.classes term.n }
+        ensures exact { (j : ℕ) (s t : Term) → IsAt self.now.table.terms term.n s → IsAt self.now.table.terms j t → (result ≡ class self.now.classes j) ↔ AreTogetherIn self.now s t }
     {
-        self.classes[term.n as usize]
+        self.known();
+        self.classes.of(term.n as usize)
     }
 
-    /// Whether two terms are in one class.
+    /// Whether two terms are the same by what was asserted.
     pub fn same(&self, left: TermNo, right: TermNo) -> bool
         requires left { IsNo self.now left }
         requires right { IsNo self.now right }
-        ensures { IsTrue result ↔ (class self.now.classes left.n ≡ class self.now.classes right.n) }
+        ensures { (s t : Term) → IsAt self.now.table.terms left.n s → IsAt self.now.table.terms right.n t → IsTrue result ↔ AreTogetherIn self.now s t }
     {
-        self.class_of(left) == self.class_of(right)
+        let left_class = self.class_of(left);
+        let right_class = self.class_of(right);
+        left_class == right_class
     }
 
-    /// The clash, where there was one.
+    /// The clash, if there was one.
     pub fn clash(&self) -> Option<Clash>
         ensures { result ≡ self.now.clash }
     {
         self.clash
     }
 
-    /// Asserts that two terms are the same; or two terms that clash.
-    pub fn add_same(&mut self, left: TermNo, right: TermNo) -> Result<(), Clash>
+    fn note_same(&mut self, left: TermNo, right: TermNo) -> Result<(), Clash>
         requires left { IsNo self.old left }
         requires right { IsNo self.old right }
-        requires one_sort { IsOneSort self.old left right }
+        requires one_sort { AreOfOneSort self.old left right }
         ensures spent { (q : Clash) → self.old.clash ≡ Some q → (result ≡ Err q) × (self.new ≡ self.old) }
         ensures added { self.old.clash ≡ None → AddsFact self.old self.new true left right }
         ensures ok { OnOk result (self.new.clash ≡ None) }
@@ -113,27 +155,25 @@ impl Closure {
         }
         self.table.known();
         self.marks.note(true, left.n as usize, right.n as usize);
-        match settle(
+        let clash = unite(
             &self.table,
             &self.marks,
             &mut self.classes,
+            &mut self.signatures,
             left.n as usize,
             right.n as usize,
-        ) {
+        );
+        self.clash = clash;
+        match clash {
             None => Ok(()),
-            Some(pair) => {
-                let clash = pair.clash();
-                self.clash = Some(clash);
-                Err(clash)
-            }
+            Some(clash) => Err(clash),
         }
     }
 
-    /// Asserts that two terms are different; or those two, where they are in one class.
-    pub fn add_apart(&mut self, left: TermNo, right: TermNo) -> Result<(), Clash>
+    fn note_apart(&mut self, left: TermNo, right: TermNo) -> Result<(), Clash>
         requires left { IsNo self.old left }
         requires right { IsNo self.old right }
-        requires one_sort { IsOneSort self.old left right }
+        requires one_sort { AreOfOneSort self.old left right }
         ensures spent { (q : Clash) → self.old.clash ≡ Some q → (result ≡ Err q) × (self.new ≡ self.old) }
         ensures added { self.old.clash ≡ None → AddsFact self.old self.new false left right }
         ensures ok { OnOk result (self.new.clash ≡ None) }
@@ -142,10 +182,11 @@ impl Closure {
         if let Some(clash) = self.clash {
             return Err(clash);
         }
-        let together = self.same(left, right);
         self.table.known();
         self.marks.note(false, left.n as usize, right.n as usize);
-        if together {
+        let left_class = self.classes.of(left.n as usize);
+        let right_class = self.classes.of(right.n as usize);
+        if left_class == right_class {
             let clash = Clash { left, right };
             self.clash = Some(clash);
             return Err(clash);
@@ -153,23 +194,41 @@ impl Closure {
         Ok(())
     }
 
-    /// The number of a term of the problem, its prefixes, the constants and the undefs.
-    pub fn term(&self, term: &Term) -> Option<TermNo>
-        ensures { MatchOption result ((i : ℕ) → IsAt self.now.table.terms i term.now → ⊥) (λ no. IsAt self.now.table.terms no.n term.now) }
+    /// Asserts that two terms of one sort are the same. A clash comes exactly where nothing satisfies what was asserted;
+    /// it names two terms that were put together and can't be the same. After a clash the closure is spent: it takes no
+    /// assertion, and answers the same clash.
+    pub fn add_same(&mut self, left: TermNo, right: TermNo) -> Result<(), Clash>
+        requires left { IsNo self.old left }
+        requires right { IsNo self.old right }
+        requires one_sort { AreOfOneSort self.old left right }
+        ensures spent { (q : Clash) → self.old.clash ≡ Some q → (result ≡ Err q) × (self.new ≡ self.old) }
+        ensures added { self.old.clash ≡ None → AddsFact self.old self.new true left right }
+        ensures ok { OnOk result (self.new.clash ≡ None) }
+        ensures clash { IfErr result (λ q. self.new.clash ≡ Some q) }
+        ensures no_model { IsErr result ↔ HasNoModel self.new }
+        ensures facts_clash { IsErr result ↔ FactsClashIn self.new }
+        ensures conflict { IfErr result (NamesConflict self.new) }
     {
-        self.table.known();
-        let i = self.table.find(term)?;
-        Some(TermNo { n: i as u32 })
+        let answer = self.note_same(left, right);
+        self.known();
+        answer
     }
 
-    /// A database and values in which all holds that was asserted, and that separate the classes of each sort.
-    pub fn model(&self, alloc: Global) -> Result<FiniteModel, AllocError>
-        requires no_clash { self.now.clash ≡ None }
-        requires usual { IsUsual self.now.table }
-        ensures { IfOk result (λ m. IsModelOf self.now.table (IsFactOf self.now) self.now.classes m.db m.values) }
+    /// Asserts that two terms of one sort are not the same, with the same answers.
+    pub fn add_apart(&mut self, left: TermNo, right: TermNo) -> Result<(), Clash>
+        requires left { IsNo self.old left }
+        requires right { IsNo self.old right }
+        requires one_sort { AreOfOneSort self.old left right }
+        ensures spent { (q : Clash) → self.old.clash ≡ Some q → (result ≡ Err q) × (self.new ≡ self.old) }
+        ensures added { self.old.clash ≡ None → AddsFact self.old self.new false left right }
+        ensures ok { OnOk result (self.new.clash ≡ None) }
+        ensures clash { IfErr result (λ q. self.new.clash ≡ Some q) }
+        ensures no_model { IsErr result ↔ HasNoModel self.new }
+        ensures facts_clash { IsErr result ↔ FactsClashIn self.new }
+        ensures conflict { IfErr result (NamesConflict self.new) }
     {
-        self.table.known();
-        let model = model_of(alloc, &self.table, self.classes.as_slice())?;
-        Ok(model)
+        let answer = self.note_apart(left, right);
+        self.known();
+        answer
     }
 }

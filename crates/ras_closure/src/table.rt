@@ -1,11 +1,12 @@
 ghost use Rattle.std.specs.Prelude.{◌≡◌, ℕ, ◌+◌, ◌<◌, length, slice_get, Some, MatchOption, IfOk, All};
-ghost use Rattle.ras_logic.specs.Formulas.{LiteralFits};
-ghost use Rattle.ras_closure.specs.Models.{IsAt};
-ghost use Rattle.ras_closure.specs.Saturation.{IsTable, rigid_count};
+ghost use Rattle.ras_logic.specs.Formulas.{Fits};
+ghost use Rattle.ras_logic.specs.Terms.{sort_of as the_sort};
+ghost use Rattle.ras_logic.specs.declared.term.Term.{Term};
+ghost use Rattle.ras_closure.specs.Numbered.{IsAt, IsTable, rigid_count};
 
 use crate::building::{place_fixed, place_literals};
 use crate::link::Link;
-use ras_logic::{FunDecl, FunId, List, Plain, Problem, Shape, Term};
+use ras_logic::{FunDecl, FunId, List, Plain, Problem, RelId, Shape, SortId, Term, sort_of};
 use std::alloc::{AllocError, Global};
 use std::marker::Model;
 
@@ -19,13 +20,13 @@ pub struct TermTable {
 }
 
 impl Model for TermTable {
-    ghost use Rattle.ras_closure.specs.TableParts.{TableParts};
+    ghost use Rattle.ras_closure.specs.Numbered.{TableParts};
 
     ghost Value = { TableParts };
 
     ghost view = { λ t. record { shape = t.shape; problem = t.problem; terms = t.terms; links = t.links } };
 
-    ghost use Rattle.ras_closure.specs.Saturation.{IsTable};
+    ghost use Rattle.ras_closure.specs.Numbered.{IsTable};
 
     ghost invariant = { λ t. IsTable (record { shape = t.shape; problem = t.problem; terms = t.terms; links = t.links }) };
 }
@@ -33,12 +34,11 @@ impl Model for TermTable {
 impl TermTable {
     /// The terms of a problem with their prefixes, after every sort's undef and the constants.
     pub fn new(alloc: Global, shape: &Shape, problem: &Problem) -> Result<TermTable, AllocError>
-        requires fit { All (LiteralFits shape.now problem.now.rows problem.now.params) problem.now.literals }
-        requires few { length shape.now.schema.constants < 65536 }
+        requires { Fits shape.now problem.now }
         ensures shape { IfOk result (λ t. t.shape ≡ shape.now) }
         ensures problem { IfOk result (λ t. t.problem ≡ problem.now) }
     {
-        shape.schema().known();
+        shape.known();
         let mut terms = List::new(alloc);
         let mut links = List::new(alloc);
         place_fixed(alloc, shape.schema(), problem, &mut terms, &mut links)?;
@@ -53,6 +53,22 @@ impl TermTable {
         })
     }
 
+    pub fn copy(&self, alloc: Global) -> Result<TermTable, AllocError>
+        ensures { IfOk result (λ t. t ≡ self.now) }
+    {
+        let shape = self.shape.copy(alloc)?;
+        let problem = self.problem.copy(alloc)?;
+        let terms = self.terms.copy(alloc)?;
+        let links = self.links.copy(alloc)?;
+        Ok(TermTable {
+            shape,
+            problem,
+            terms,
+            links,
+        })
+    }
+
+    /// What every table keeps.
     pub fn known(&self)
         ensures { IsTable self.now }
     {
@@ -65,10 +81,10 @@ impl TermTable {
         self.links.as_slice()
     }
 
-    pub fn functions(&self) -> &[FunDecl]
-        ensures { result.now ≡ self.now.shape.schema.functions }
+    pub fn function_count(&self) -> usize
+        ensures { result ≡ length self.now.shape.schema.functions }
     {
-        self.shape.schema().functions()
+        self.shape.schema().function_count() as usize
     }
 
     pub fn function(&self, function: FunId) -> FunDecl
@@ -100,10 +116,48 @@ impl TermTable {
         &self.shape
     }
 
-    pub fn problem(&self) -> &Problem
-        ensures { result.now ≡ self.now.problem }
+    /// The named rows of the problem.
+    pub fn rows(&self) -> &[RelId]
+        ensures { result.now ≡ self.now.problem.rows }
     {
-        &self.problem
+        self.problem.rows.as_slice()
+    }
+
+    /// The data parameters of the problem.
+    pub fn params(&self) -> &[SortId]
+        ensures { result.now ≡ self.now.problem.params }
+    {
+        self.problem.params.as_slice()
+    }
+
+    /// The term of a number.
+    pub fn term(&self, term: usize) -> &Term
+        requires { term < length self.now.terms }
+        ensures { IsAt self.now.terms term result.now }
+    {
+        &self.terms.as_slice()[term]
+    }
+
+    /// How a term is made.
+    pub fn link(&self, term: usize) -> Link
+        requires { term < length self.now.terms }
+        ensures { slice_get self.now.links term ≡ Some result }
+    {
+        self.known();
+        self.links.as_slice()[term]
+    }
+
+    /// The sort of a term.
+    pub fn sort(&self, term: usize) -> SortId
+        requires { term < length self.now.terms }
+        ensures { (t : Term) → IsAt self.now.terms term t → the_sort self.now.shape self.now.problem.rows self.now.problem.params t ≡ Some result }
+    {
+        self.known();
+        let found = sort_of(self.shape(), self.rows(), self.params(), self.term(term));
+        match found {
+            Some(sort) => sort,
+            None => unreachable!(),
+        }
     }
 
     /// How many terms there are.

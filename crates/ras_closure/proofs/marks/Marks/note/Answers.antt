@@ -1,5 +1,5 @@
 use Rattle.std.proofs.Common.{◌≡◌, ap}
-use Rattle.ras_closure.specs.Facts.{MarkParts}
+use Rattle.ras_closure.specs.Assertions.{MarkParts}
 use Rattle.ras_closure.proofs.Places.{note-same, note-apart}
 use Rattle.ras_closure.proofs.marks.Marks.note.Goals as goal
 

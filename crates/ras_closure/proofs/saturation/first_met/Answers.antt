@@ -1,0 +1,24 @@
+use Rattle.std.proofs.Common.{◌≡◌, ℕ, true, false, subst, sym, ◌∙◌}
+use Rattle.ras_closure.specs.Saturation.{IsImageOf, MeetsImage}
+use Rattle.ras_closure.proofs.MetImages.{meets-put, meets-known}
+use Rattle.ras_closure.proofs.saturation.first_met.Goals as goal
+
+pub returns-then-is_image_of : goal.returns-then-is_image_of
+returns-then-is_image_of c =
+    let t = c.args.table.now in
+    let classes = c.args.classes.now in
+    let old = c.args.signatures.now in
+    let e = c.image-met.ensures in
+    let is = c.is_image_of.ensures.0 c.if-is_image_of.true in
+    subst (λ (k : ℕ). MeetsImage t classes old old c.args.function c.args.class k) (sym e)
+    (meets-known t classes old c.args.function c.args.class (subst (λ (k : ℕ). IsImageOf t classes c.args.function c.args.class k) e is))
+
+pub returns : goal.returns
+returns c =
+    rw c.put.ensures
+    (meets-put c.args.table.now c.args.classes.now c.args.signatures.now c.args.function c.args.class c.args.i c.known-2.ensures
+    (rw c.requires.functions (c.known.ensures.links.of_functions c.args.i c.requires.image.of c.args.function c.requires.image.link)) (rw c.requires.width c.requires.below) c.requires.image
+    (λ h. true_false (sym (c.is_image_of.ensures.1 (subst (λ (k : ℕ). IsImageOf c.args.table.now c.args.classes.now c.args.function c.args.class k) (sym c.image-met.ensures) h)) ∙ c.if-is_image_of.false)))
+  where
+    true_false : true ≡ false → ⊥
+    true_false e = cc
