@@ -21,7 +21,7 @@ use Rattle.ras_logic.proofs.TermSorts.{and_then_through, sort_after-step}
 use Rattle.ras_system.specs.declared.system_fault.SystemPlace.{SystemPlace}
 use Rattle.ras_system.specs.declared.bulk.Assign.{Assign}
 use Rattle.ras_system.specs.declared.bulk.Bulk.{Bulk}
-use Rattle.ras_system.specs.Known.{is_known_path, is_known_term, is_known_literal, is_sorted_literal, is_one_sort, are_known_relations, are_known_sorts}
+use Rattle.ras_system.specs.Known.{is_known_path, is_known_term, is_known_literal, is_well_sorted, is_one_sort, are_known_relations, are_known_sorts}
 use Rattle.ras_system.specs.SystemFaults.{first_of, literal_checks}
 use Rattle.ras_system.proofs.Passing.{all_from_test, test_from_all}
 use Rattle.ras_system.specs.Systems.{assign_literal, case_literals}
@@ -74,10 +74,10 @@ pub true-one_sort : (o q : Option SortId) (s : SortId) → o ≡ Some s → q �
 true-one_sort o q s left right = rw (left, right) (eq-eqb s.n s.n refl)
 
 module _ (shape : ShapeParts) (rows : List RelId) (params : List SortId) where
-  pub sorted-fits : (l : Literal) → is_sorted_literal shape rows params l ≡ true → LiteralFits shape rows params l
+  pub sorted-fits : (l : Literal) → is_well_sorted shape rows params l ≡ true → LiteralFits shape rows params l
   sorted-fits (Equal left right same) h = one_sort-true (sort_of shape rows params left) (sort_of shape rows params right) h
 
-  pub fits-sorted : (l : Literal) → LiteralFits shape rows params l → is_sorted_literal shape rows params l ≡ true
+  pub fits-sorted : (l : Literal) → LiteralFits shape rows params l → is_well_sorted shape rows params l ≡ true
   fits-sorted (Equal left right same) h = true-one_sort (sort_of shape rows params left) (sort_of shape rows params right) h.0 h.1 h.2
 
   known_path : (path : List FunId) (s u : SortId) → sort_along shape.schema path s ≡ Some u → is_known_path shape.schema path ≡ true
@@ -99,14 +99,14 @@ module _ (shape : ShapeParts) (rows : List RelId) (params : List SortId) where
       and_from (is_known_term shape rows params left) (is_known_term shape rows params right) (known_term left h.0 h.1) (known_term right h.0 h.2)
 
   -- literals that pass their checks fit, and the other way round
-  pub sorted-all_fit : (literals : List Literal) → not (list_all (is_sorted_literal shape rows params) literals) ≡ false → All (LiteralFits shape rows params) literals
-  sorted-all_fit literals h = all_from_test (is_sorted_literal shape rows params) (LiteralFits shape rows params) sorted-fits literals (not-false (list_all (is_sorted_literal shape rows params) literals) h)
+  pub sorted-all_fit : (literals : List Literal) → not (list_all (is_well_sorted shape rows params) literals) ≡ false → All (LiteralFits shape rows params) literals
+  sorted-all_fit literals h = all_from_test (is_well_sorted shape rows params) (LiteralFits shape rows params) sorted-fits literals (not-false (list_all (is_well_sorted shape rows params) literals) h)
 
   pub all_fit-literal_checks : (p : SystemPlace) (literals : List Literal) → All (LiteralFits shape rows params) literals → first_of (literal_checks shape p rows params literals) ≡ None
   all_fit-literal_checks p literals fit =
       rw (
         test_from_all (is_known_literal shape rows params) (LiteralFits shape rows params) fits-known literals fit,
-        test_from_all (is_sorted_literal shape rows params) (LiteralFits shape rows params) fits-sorted literals fit,
+        test_from_all (is_well_sorted shape rows params) (LiteralFits shape rows params) fits-sorted literals fit,
       )
 
 -- relations and sorts that exist

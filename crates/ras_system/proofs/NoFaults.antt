@@ -22,7 +22,7 @@ use Rattle.ras_system.specs.declared.bulk.Bulk.{Bulk}
 use Rattle.ras_system.specs.declared.transition.Transition.{Transition}
 use Rattle.ras_system.specs.declared.system_fault.SystemPlace.TheVariants as place
 use Rattle.ras_system.specs.declared.system_fault.SystemKind.TheVariants.{Range}
-use Rattle.ras_system.specs.Known.{are_known_relations, are_known_sorts, is_known_literal, is_sorted_literal, is_one_sort}
+use Rattle.ras_system.specs.Known.{are_known_relations, are_known_sorts, is_known_literal, is_well_sorted, is_one_sort}
 use Rattle.ras_system.specs.Systems.{SystemParts, IsSystem, IsTransition, BulkFits, UpdateFits, AssignFits, update_literal, assign_literal, case_literals, bulk_rows}
 use Rattle.ras_system.specs.SystemFaults.{Check, check, HasTransitionLimits, HasGoalLimits, HasSystemLimits, first_of, for_each, constant_checks, initial_checks, parameter_checks, disjunct_checks, is_same_target, update_checks, is_out_of_group, column_checks, case_checks, transition_checks, goal_checks, first_fault}
 use Rattle.ras_system.proofs.Passing.{true_false, none_fails, none_first, passes_both, both_pass, each_passes, all_pass, all_from_each, all_from_test, test_from_all, pairs_from_fresh, fresh_from_pairs, few_from_each}
@@ -148,17 +148,17 @@ module _ (shape : ShapeParts) where
       let e = none_fails (case_checks shape n t k b) h in
       let few = or_parts (nat_le 8 k) (nat_lt 16 (length b.condition)) e.0 in
       let rows : List RelId = bulk_rows t b in
-      let parts = and_parts (list_all (is_sorted_literal shape rows t.params) b.condition)
-      (list_all (λ (a : Assign). is_sorted_literal shape rows t.params (assign_literal (length t.rows) a)) b.assigns)
-      (sym (list_all_parts (is_sorted_literal shape rows t.params) (assign_literal (length t.rows)) b.condition b.assigns)
-      ∙ not-false (list_all (is_sorted_literal shape rows t.params) (case_literals (length t.rows) b)) e.1.1.1.0) in
+      let parts = and_parts (list_all (is_well_sorted shape rows t.params) b.condition)
+      (list_all (λ (a : Assign). is_well_sorted shape rows t.params (assign_literal (length t.rows) a)) b.assigns)
+      (sym (list_all_parts (is_well_sorted shape rows t.params) (assign_literal (length t.rows)) b.condition b.assigns)
+      ∙ not-false (list_all (is_well_sorted shape rows t.params) (case_literals (length t.rows) b)) e.1.1.1.0) in
       record {
         few = below k 8 few.0;
         condition = at_most (length b.condition) 16 few.1;
         fits = record {
           relation = All-head (IsRelation shape) b.relation [] (known-relations shape (b.relation ∷ []) (not-false (are_known_relations shape (b.relation ∷ [])) e.1.0));
-          condition = all_from_test (is_sorted_literal shape rows t.params) (LiteralFits shape rows t.params) (sorted-fits shape rows t.params) b.condition parts.0;
-          assigns = all_from_test (λ (a : Assign). is_sorted_literal shape rows t.params (assign_literal (length t.rows) a)) (AssignFits shape t b)
+          condition = all_from_test (is_well_sorted shape rows t.params) (LiteralFits shape rows t.params) (sorted-fits shape rows t.params) b.condition parts.0;
+          assigns = all_from_test (λ (a : Assign). is_well_sorted shape rows t.params (assign_literal (length t.rows) a)) (AssignFits shape t b)
               (λ a. sorted-fits shape rows t.params (assign_literal (length t.rows) a)) b.assigns parts.1;
           once = pairs_from_fresh (λ (a : Assign) (e : Assign). nat_eq a.column e.column) (λ (a : Assign) (e : Assign). a.column ≡ e.column → ⊥)
               (λ a e t same. other_number a.column e.column t same) b.assigns
@@ -184,7 +184,7 @@ module _ (shape : ShapeParts) where
         le-ltb 16 (length b.condition) good.condition,
         relations-known shape (b.relation ∷ []) (All-cons (IsRelation shape) b.relation [] good.fits.relation (All-nil (IsRelation shape))),
         test_from_all (is_known_literal shape rows t.params) (LiteralFits shape rows t.params) (fits-known shape rows t.params) (case_literals (length t.rows) b) fit,
-        test_from_all (is_sorted_literal shape rows t.params) (LiteralFits shape rows t.params) (fits-sorted shape rows t.params) (case_literals (length t.rows) b) fit,
+        test_from_all (is_well_sorted shape rows t.params) (LiteralFits shape rows t.params) (fits-sorted shape rows t.params) (case_literals (length t.rows) b) fit,
         good.grouped,
       ) columns
 

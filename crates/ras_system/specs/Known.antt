@@ -38,5 +38,5 @@ module _ (shape : ShapeParts) (rows : List RelId) (params : List SortId) where
   is_known_literal (Equal left right same) = is_known_term left && is_known_term right
 
   -- both sides have one and the same sort
-  abbrev pub is_sorted_literal : Literal → Bool
-  is_sorted_literal (Equal left right same) = is_one_sort (sort_of shape rows params left) (sort_of shape rows params right)
+  abbrev pub is_well_sorted : Literal → Bool
+  is_well_sorted (Equal left right same) = is_one_sort (sort_of shape rows params left) (sort_of shape rows params right)

@@ -20,7 +20,7 @@ use Rattle.ras_system.specs.declared.system_fault.SystemPlace.TheVariants as pla
 use Rattle.ras_system.specs.declared.system_fault.SystemKind.{SystemKind}
 use Rattle.ras_system.specs.declared.system_fault.SystemKind.TheVariants.{Limit, Range, Sort, Target as Twice, NoDisjunct}
 use Rattle.ras_system.specs.declared.system_fault.SystemFault.{SystemFault}
-use Rattle.ras_system.specs.Known.{are_known_relations, are_known_sorts, is_known_literal, is_sorted_literal, is_one_sort}
+use Rattle.ras_system.specs.Known.{are_known_relations, are_known_sorts, is_known_literal, is_well_sorted, is_one_sort}
 use Rattle.ras_system.specs.Systems.{SystemParts, update_literal, case_literals, bulk_rows}
 
 -- at most 8 row parameters, 16 data parameters, 64 disjuncts of 128 literals each, 8 bulk cases with conditions of 16 literals each
@@ -84,7 +84,7 @@ initial_checks shape initial =
 abbrev pub literal_checks : ShapeParts → SystemPlace → List RelId → List SortId → List Literal → List Check
 literal_checks shape p rows params literals =
     check p Range (not (list_all (is_known_literal shape rows params) literals))
-    ∷ check p Sort (not (list_all (is_sorted_literal shape rows params) literals))
+    ∷ check p Sort (not (list_all (is_well_sorted shape rows params) literals))
     ∷ []
 
 -- a transition by itself: its number, its parameters, and that it has a disjunct

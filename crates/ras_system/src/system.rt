@@ -111,3 +111,6 @@ impl Plain for System {
             && self.goals.equal(&other.goals)
     }
 }
+
+#[cfg(test)]
+mod tests;

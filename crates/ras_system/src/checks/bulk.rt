@@ -2,13 +2,13 @@ ghost use Rattle.std.specs.Prelude.{◌≡◌, ◌+◌, ◌-◌, ◌<◌, ◌≤
 ghost use Rattle.std.specs.List.{list_all, list_any};
 ghost use Rattle.std.specs.Option.{option_map_or};
 ghost use Rattle.ras_system.specs.declared.bulk.Assign.{Assign};
-ghost use Rattle.ras_system.specs.Known.{is_known_literal, is_sorted_literal};
+ghost use Rattle.ras_system.specs.Known.{is_known_literal, is_well_sorted};
 ghost use Rattle.ras_system.specs.Systems.{assign_literal, bulk_rows, case_literals};
 ghost use Rattle.ras_system.specs.SystemFaults.{Answers, is_of_relation, for_each, is_out_of_group as out_of_group, column_checks, literal_checks, case_checks};
 
 use super::fault;
 use super::known::{
-    are_known_literals, are_known_relations, are_sorted_literals, is_known_base, is_known_term,
+    are_known_literals, are_known_relations, are_well_sorted, is_known_base, is_known_term,
     is_one_sort, sort_of_alone,
 };
 use crate::bulk::{Assign, Bulk};
@@ -44,14 +44,14 @@ fn is_known_assign(
 }
 
 /// Whether the column and the term have one and the same sort.
-fn is_sorted_assign(
+fn is_well_sorted_assign(
     shape: &Shape,
     rows: &[RelId],
     params: &[SortId],
     row: u16,
     assign: &Assign,
 ) -> bool
-    ensures { result ≡ is_sorted_literal shape.now rows.now params.now (assign_literal row assign.now) }
+    ensures { result ≡ is_well_sorted shape.now rows.now params.now (assign_literal row assign.now) }
 {
     let column = Base::Cell {
         row,
@@ -77,18 +77,18 @@ fn are_known_assigns(
         .all(|a| is_known_assign(shape, rows, params, row, a))
 }
 
-fn are_sorted_assigns(
+fn are_well_sorted_assigns(
     shape: &Shape,
     rows: &[RelId],
     params: &[SortId],
     row: u16,
     assigns: &[Assign],
 ) -> bool
-    ensures { result ≡ list_all (λ (a : Assign). is_sorted_literal shape.now rows.now params.now (assign_literal row a)) assigns.now }
+    ensures { result ≡ list_all (λ (a : Assign). is_well_sorted shape.now rows.now params.now (assign_literal row a)) assigns.now }
 {
     assigns
         .iter()
-        .all(|a| is_sorted_assign(shape, rows, params, row, a))
+        .all(|a| is_well_sorted_assign(shape, rows, params, row, a))
 }
 
 /// Whether everything that the terms of a bulk case name exists.
@@ -102,11 +102,17 @@ fn is_known_case(shape: &Shape, rows: &[RelId], params: &[SortId], row: u16, cas
 
 /// Whether the sides of the literals and assignments of a bulk case have one sort each.
 #[tactic(auto, using(crate::proofs::KnownTerms::list_all_parts))]
-fn is_sorted_case(shape: &Shape, rows: &[RelId], params: &[SortId], row: u16, case: &Bulk) -> bool
-    ensures { result ≡ list_all (is_sorted_literal shape.now rows.now params.now) (case_literals row case.now) }
+fn is_well_sorted_case(
+    shape: &Shape,
+    rows: &[RelId],
+    params: &[SortId],
+    row: u16,
+    case: &Bulk,
+) -> bool
+    ensures { result ≡ list_all (is_well_sorted shape.now rows.now params.now) (case_literals row case.now) }
 {
-    are_sorted_literals(shape, rows, params, case.condition.as_slice())
-        && are_sorted_assigns(shape, rows, params, row, case.assigns.as_slice())
+    are_well_sorted(shape, rows, params, case.condition.as_slice())
+        && are_well_sorted_assigns(shape, rows, params, row, case.assigns.as_slice())
 }
 
 fn has_case(bulk: &[Bulk], relation: RelId) -> bool
@@ -166,7 +172,7 @@ fn check_terms(
     if !is_known_case(shape, rows, params, row as u16, case) {
         return fault(place, SystemKind::Range);
     }
-    if !is_sorted_case(shape, rows, params, row as u16, case) {
+    if !is_well_sorted_case(shape, rows, params, row as u16, case) {
         return fault(place, SystemKind::Sort);
     }
     Ok(())

@@ -1,7 +1,7 @@
 ghost use Rattle.std.specs.Prelude.{◌≡◌};
 ghost use Rattle.std.specs.List.{list_all};
 ghost use Rattle.ras_logic.specs.Terms.{sort_of as the_sort, base_term};
-ghost use Rattle.ras_system.specs.Known.{is_known_path as known_path, is_known_term as known_term, is_known_literal as known_literal, is_sorted_literal as sorted_literal, is_one_sort as one_sort, are_known_relations as known_relations, are_known_sorts as known_sorts};
+ghost use Rattle.ras_system.specs.Known.{is_known_path as known_path, is_known_term as known_term, is_known_literal as known_literal, is_well_sorted as well_sorted, is_one_sort as one_sort, are_known_relations as known_relations, are_known_sorts as known_sorts};
 ghost use Rattle.ras_system.specs.SystemFaults.{Answers, literal_checks};
 
 use super::fault;
@@ -64,8 +64,8 @@ pub fn is_one_sort(left: Option<SortId>, right: Option<SortId>) -> bool
     }
 }
 
-fn is_sorted_literal(shape: &Shape, rows: &[RelId], params: &[SortId], literal: &Literal) -> bool
-    ensures { result ≡ sorted_literal shape.now rows.now params.now literal.now }
+fn is_well_sorted(shape: &Shape, rows: &[RelId], params: &[SortId], literal: &Literal) -> bool
+    ensures { result ≡ well_sorted shape.now rows.now params.now literal.now }
 {
     match literal {
         Literal::Equal { left, right, .. } => is_one_sort(
@@ -97,17 +97,17 @@ pub fn are_known_literals(
 }
 
 /// Whether both sides of each literal have one and the same sort.
-pub fn are_sorted_literals(
+pub fn are_well_sorted(
     shape: &Shape,
     rows: &[RelId],
     params: &[SortId],
     literals: &[Literal],
 ) -> bool
-    ensures { result ≡ list_all (sorted_literal shape.now rows.now params.now) literals.now }
+    ensures { result ≡ list_all (well_sorted shape.now rows.now params.now) literals.now }
 {
     literals
         .iter()
-        .all(|l| is_sorted_literal(shape, rows, params, l))
+        .all(|l| is_well_sorted(shape, rows, params, l))
 }
 
 /// The first fault of literals that stand at one place.
@@ -123,7 +123,7 @@ pub fn check_literals(
     if !are_known_literals(shape, rows, params, literals) {
         return fault(place, SystemKind::Range);
     }
-    if !are_sorted_literals(shape, rows, params, literals) {
+    if !are_well_sorted(shape, rows, params, literals) {
         return fault(place, SystemKind::Sort);
     }
     Ok(())
