@@ -1,13 +1,13 @@
 -- What is spelled is read.
-use Rattle.std.proofs.Common.{◌≡◌, ℕ, List, [], ◌∷◌, ◌++◌, Option, Some, None, Bool, true, false, refl, sym, ap, subst, ◌∙◌, append_assoc}
+use Rattle.std.proofs.Common.{◌≡◌, List, [], ◌∷◌, ◌++◌, Option, Some, None, Bool, true, false, refl, sym, ap, subst, ◌∙◌, append_assoc}
 use Rattle.std.specs.List.{flat_map}
 use Rattle.std.proofs.lemmas.List.{append-nil}
 use Rattle.ras_lexer.specs.declared.fixed.Fixed.{Fixed}
 use Rattle.ras_lexer.specs.declared.fixed.Fixed.TheVariants as sign
 use Rattle.ras_lexer.specs.declared.token.Word.{Word}
 use Rattle.ras_lexer.specs.declared.token.Word.TheVariants as word
-use Rattle.ras_syntax.specs.Grammar.{Term, call, cell, plain, undef, term_words, Literal, comparison_sign, literal_words, Conjunction, always, all, and_words, conjunction_words, or_words, guard_words, initial_words, dotted_words, Sort, sort_words, Function, totality_sign, function_words, Constant, constant_words, Variable, variable_words, Column, comma_words, Relation, relation_words, Row, row_words, Param, param_words, Guard, Update, update_words, Assignment, assignment_words, Case, case_words, Each, each_words, Step, step_words, Goal, goal_words, File, file_words, IsFile, one, named, Text}
-use Rattle.ras_syntax.specs.Machine.{Sym, fixed, name, conjunction, comparison, term, tail, sorts, functions, constants, variables, initial, relations, columns, steps, rows, params, ands, ors, dotted, updates, eachs, cases, assignments, goals, fault, begins, begins_name, start}
+use Rattle.ras_syntax.specs.Grammar.{Term, call, cell, plain, undef, term_words, Literal, comparison_sign, literal_words, Conjunction, always, all, and_words, conjunction_words, or_words, guard_words, initial_words, dotted_words, Sort, sort_words, Function, totality_sign, function_words, Constant, constant_words, Variable, variable_words, Column, comma_words, Relation, relation_words, Row, row_words, Param, param_words, Guard, Update, update_words, Assignment, assignment_words, Case, case_words, Each, each_words, Step, step_words, Goal, goal_words, File, file_words, one, Text}
+use Rattle.ras_syntax.specs.Machine.{Sym, fixed, conjunction, comparison, term, sorts, functions, constants, variables, initial, relations, columns, steps, rows, params, ands, ors, dotted, updates, eachs, cases, assignments, goals, fault, begins, begins_name, start}
 use Rattle.ras_syntax.proofs.Skips.{no_sorts, no_functions, no_constants, no_variables, no_initial, no_relations, no_columns, no_steps, no_rows, no_params, no_ands, no_ors, no_dotted, no_updates, no_eachs, no_cases, no_assignments, no_goals, no_tail, conjunction_is_literal}
 
 -- ---- what may not stand behind a term, a conjunction, a guard and the functions
@@ -31,11 +31,11 @@ pub record FunctionsEnd (ws : List Word) : Type 0 where
 -- ---- repetitions
 
 -- what each item begins with, and what comes behind the list
-follow : {X : Type 0} (P : List Word → Type 0) (spell : X → List Word) (xs : List X) (ws : List Word) → ((x : X) (rest : List Word) → P (spell x ++ rest)) → P ws → P (flat_map spell xs ++ ws)
+pub follow : {X : Type 0} (P : List Word → Type 0) (spell : X → List Word) (xs : List X) (ws : List Word) → ((x : X) (rest : List Word) → P (spell x ++ rest)) → P ws → P (flat_map spell xs ++ ws)
 follow P spell [] ws first h = h
 follow P spell (x ∷ xs) ws first h = subst P (sym (append_assoc (spell x) (flat_map spell xs) ws)) (first x (flat_map spell xs ++ ws))
 
-follow_last : {X : Type 0} (P : List Word → Type 0) (spell : X → List Word) (xs : List X) → ((x : X) (rest : List Word) → P (spell x ++ rest)) → P [] → P (flat_map spell xs)
+pub follow_last : {X : Type 0} (P : List Word → Type 0) (spell : X → List Word) (xs : List X) → ((x : X) (rest : List Word) → P (spell x ++ rest)) → P [] → P (flat_map spell xs)
 follow_last P spell xs first h = subst P (append-nil (flat_map spell xs)) (follow P spell xs [] first h)
 
 -- Q is asked of what comes behind one item, P of what comes behind the list
@@ -67,7 +67,7 @@ comparison_again : (equal : Bool) (K : List Sym) (ws : List Word) → fault (com
 comparison_again true K ws = refl
 comparison_again false K ws = refl
 
-comparison_ends : (equal : Bool) (ws : List Word) → TermEnds (word.Fixed (comparison_sign equal) ∷ ws)
+pub comparison_ends : (equal : Bool) (ws : List Word) → TermEnds (word.Fixed (comparison_sign equal) ∷ ws)
 comparison_ends true ws = record { opens = refl; dot = refl }
 comparison_ends false ws = record { opens = refl; dot = refl }
 
@@ -84,7 +84,7 @@ ands_again ls K ws h =
     many ands and_words TermEnds ConjunctionEnds (λ l rest. record { opens = refl; dot = refl }) (λ behind i. i.term)
     (λ l J behind i. literal_again l (ands ∷ J) behind i) (λ J behind i. no_ands behind J i.and) ls K ws h
 
-term_not_true : (t : Term) (ws : List Word) → begins sign.True (term_words t ++ ws) ≡ false
+pub term_not_true : (t : Term) (ws : List Word) → begins sign.True (term_words t ++ ws) ≡ false
 term_not_true (call f t) ws = refl
 term_not_true (cell r c) ws = refl
 term_not_true (plain n) ws = refl
@@ -101,7 +101,7 @@ conjunction_again (all l ls) K ws h =
     ∙ literal_again l (ands ∷ K) rest (follow TermEnds and_words ls ws (λ x more. record { opens = refl; dot = refl }) h.term)
     ∙ ands_again ls K ws h
 
-or_ends : (c : Conjunction) (rest : List Word) → ConjunctionEnds (or_words c ++ rest)
+pub or_ends : (c : Conjunction) (rest : List Word) → ConjunctionEnds (or_words c ++ rest)
 or_ends c rest = record { and = refl; term = record { opens = refl; dot = refl } }
 
 ors_again : (cs : List Conjunction) (K : List Sym) (ws : List Word) → GuardEnds ws → fault (ors ∷ K) (flat_map or_words cs ++ ws) ≡ fault K ws
@@ -115,7 +115,7 @@ guard_again g K ws h =
     ∙ conjunction_again g.first (ors ∷ K) (flat_map or_words g.others ++ ws) (follow ConjunctionEnds or_words g.others ws or_ends h.conjunction)
     ∙ ors_again g.others K ws h
 
-semicolon_ends : (ws : List Word) → GuardEnds (word.Fixed sign.Semicolon ∷ ws)
+pub semicolon_ends : (ws : List Word) → GuardEnds (word.Fixed sign.Semicolon ∷ ws)
 semicolon_ends ws = record { or = refl; conjunction = record { and = refl; term = record { opens = refl; dot = refl } } }
 
 -- ---- declarations
@@ -221,7 +221,7 @@ each_again e K ws =
 eachs_again : (xs : List Each) (K : List Sym) (ws : List Word) → begins sign.Each ws ≡ false → fault (eachs ∷ K) (flat_map each_words xs ++ ws) ≡ fault K ws
 eachs_again xs K ws h = many eachs each_words Any (λ l. begins sign.Each l ≡ false) (λ x rest. tt) (λ behind i. tt) (λ x J behind i. each_again x J behind) (λ J behind i. no_eachs behind J i) xs K ws h
 
-step_regrouped : (a b g u e : List Word) (w s c : Word) (ws : List Word)
+pub step_regrouped : (a b g u e : List Word) (w s c : Word) (ws : List Word)
     → (a ++ (b ++ (w ∷ (g ++ (s ∷ (u ++ (e ++ (c ∷ [])))))))) ++ ws ≡ a ++ (b ++ (w ∷ (g ++ (s ∷ (u ++ (e ++ (c ∷ ws)))))))
 step_regrouped a b g u e w s c ws = simp append_assoc
 
@@ -262,33 +262,70 @@ goals_again xs K ws h = many goals goal_words Any (λ l. begins sign.Unsafe l �
 function_no_sort : (f : Function) (rest : List Word) → begins sign.Sort (function_words f ++ rest) ≡ false
 function_no_sort f rest = elim f.total as (λ b. begins sign.Sort (word.Fixed (totality_sign b) ∷ []) ≡ false) [ true ↦ refl | false ↦ refl ]
 
+-- the words from a kind of item on
+abbrev pub from_goals : File → List Word
+from_goals f = flat_map goal_words f.goals
+
+abbrev pub from_steps : File → List Word
+from_steps f = flat_map step_words f.steps ++ from_goals f
+
+abbrev pub from_relations : File → List Word
+from_relations f = flat_map relation_words f.relations ++ from_steps f
+
+abbrev pub from_variables : File → List Word
+from_variables f = flat_map variable_words f.variables ++ from_relations f
+
+abbrev pub from_constants : File → List Word
+from_constants f = flat_map constant_words f.constants ++ from_variables f
+
+abbrev pub from_functions : File → List Word
+from_functions f = flat_map function_words f.functions ++ from_constants f
+
+-- no kind of item goes on in those behind it
+pub record IsFree (f : File) : Type 0 where
+  pub sort : begins sign.Sort (from_functions f) ≡ false
+  pub function : FunctionsEnd (from_constants f)
+  pub constant : begins sign.Const (from_variables f) ≡ false
+  pub variable : begins sign.Var (from_relations f) ≡ false
+  pub relation : begins sign.Relation (from_steps f) ≡ false
+  pub step : begins sign.Step (from_goals f) ≡ false
+
+-- what begins no item of these kinds does not begin their words
+goals_free : (s : Fixed) (f : File) → ((x : Goal) (rest : List Word) → begins s (goal_words x ++ rest) ≡ false) → begins s (from_goals f) ≡ false
+goals_free s f g = follow_last (λ l. begins s l ≡ false) goal_words f.goals g refl
+
+relations_free : (s : Fixed) (f : File) → ((x : Relation) (rest : List Word) → begins s (relation_words x ++ rest) ≡ false) → ((x : Step) (rest : List Word) → begins s (step_words x ++ rest) ≡ false)
+    → ((x : Goal) (rest : List Word) → begins s (goal_words x ++ rest) ≡ false) → begins s (from_relations f) ≡ false
+relations_free s f r t g =
+    follow (λ l. begins s l ≡ false) relation_words f.relations (from_steps f) r (follow (λ l. begins s l ≡ false) step_words f.steps (from_goals f) t (goals_free s f g))
+
+constants_free : (s : Fixed) (f : File) → ((x : Constant) (rest : List Word) → begins s (constant_words x ++ rest) ≡ false) → ((x : Variable) (rest : List Word) → begins s (variable_words x ++ rest) ≡ false)
+    → begins s (from_relations f) ≡ false → begins s (from_constants f) ≡ false
+constants_free s f c v h =
+    follow (λ l. begins s l ≡ false) constant_words f.constants (from_variables f) c (follow (λ l. begins s l ≡ false) variable_words f.variables (from_relations f) v h)
+
+pub free : (f : File) → IsFree f
+free f = record {
+  sort = follow (λ l. begins sign.Sort l ≡ false) function_words f.functions (from_constants f) function_no_sort
+      (constants_free sign.Sort f (λ x rest. refl) (λ x rest. refl) (relations_free sign.Sort f (λ x rest. refl) (λ x rest. refl) (λ x rest. refl)));
+  function = record {
+    total = constants_free sign.Total f (λ x rest. refl) (λ x rest. refl) (relations_free sign.Total f (λ x rest. refl) (λ x rest. refl) (λ x rest. refl));
+    nullable = constants_free sign.Nullable f (λ x rest. refl) (λ x rest. refl) (relations_free sign.Nullable f (λ x rest. refl) (λ x rest. refl) (λ x rest. refl));
+  };
+  constant = follow (λ l. begins sign.Const l ≡ false) variable_words f.variables (from_relations f) (λ x rest. refl) (relations_free sign.Const f (λ x rest. refl) (λ x rest. refl) (λ x rest. refl));
+  variable = relations_free sign.Var f (λ x rest. refl) (λ x rest. refl) (λ x rest. refl);
+  relation = follow (λ l. begins sign.Relation l ≡ false) step_words f.steps (from_goals f) (λ x rest. refl) (goals_free sign.Relation f (λ x rest. refl));
+  step = goals_free sign.Step f (λ x rest. refl);
+}
+
 pub file_again : (f : File) → fault start (file_words f) ≡ None
 file_again f =
-    let g : List Word = flat_map goal_words f.goals in
-    let t : List Word = flat_map step_words f.steps ++ g in
-    let r : List Word = flat_map relation_words f.relations ++ t in
-    let v : List Word = flat_map variable_words f.variables ++ r in
-    let c : List Word = flat_map constant_words f.constants ++ v in
-    let p : List Word = flat_map function_words f.functions ++ c in
-    let from_goals : (s : Fixed) → ((x : Goal) (rest : List Word) → begins s (goal_words x ++ rest) ≡ false) → begins s g ≡ false = λ s first. follow_last (λ l. begins s l ≡ false) goal_words f.goals first refl in
-    let step_free : begins sign.Step g ≡ false = from_goals sign.Step (λ x rest. refl) in
-    let relation_free : begins sign.Relation t ≡ false = follow (λ l. begins sign.Relation l ≡ false) step_words f.steps g (λ x rest. refl) (from_goals sign.Relation (λ x rest. refl)) in
-    let from_relations : (s : Fixed) → ((x : Relation) (rest : List Word) → begins s (relation_words x ++ rest) ≡ false) → ((x : Step) (rest : List Word) → begins s (step_words x ++ rest) ≡ false)
-    → ((x : Goal) (rest : List Word) → begins s (goal_words x ++ rest) ≡ false) → begins s r ≡ false =
-    λ s first second third. follow (λ l. begins s l ≡ false) relation_words f.relations t first (follow (λ l. begins s l ≡ false) step_words f.steps g second (from_goals s third)) in
-    let var_free : begins sign.Var r ≡ false = from_relations sign.Var (λ x rest. refl) (λ x rest. refl) (λ x rest. refl) in
-    let const_free : begins sign.Const v ≡ false = follow (λ l. begins sign.Const l ≡ false) variable_words f.variables r (λ x rest. refl) (from_relations sign.Const (λ x rest. refl) (λ x rest. refl) (λ x rest. refl)) in
-    let from_constants : (s : Fixed) → ((x : Constant) (rest : List Word) → begins s (constant_words x ++ rest) ≡ false) → ((x : Variable) (rest : List Word) → begins s (variable_words x ++ rest) ≡ false) → begins s r ≡ false → begins s c ≡ false =
-    λ s first second third. follow (λ l. begins s l ≡ false) constant_words f.constants v first (follow (λ l. begins s l ≡ false) variable_words f.variables r second third) in
-    let total_free : begins sign.Total c ≡ false = from_constants sign.Total (λ x rest. refl) (λ x rest. refl) (from_relations sign.Total (λ x rest. refl) (λ x rest. refl) (λ x rest. refl)) in
-    let nullable_free : begins sign.Nullable c ≡ false = from_constants sign.Nullable (λ x rest. refl) (λ x rest. refl) (from_relations sign.Nullable (λ x rest. refl) (λ x rest. refl) (λ x rest. refl)) in
-    let sort_free : begins sign.Sort p ≡ false = follow (λ l. begins sign.Sort l ≡ false) function_words f.functions c function_no_sort
-    (from_constants sign.Sort (λ x rest. refl) (λ x rest. refl) (from_relations sign.Sort (λ x rest. refl) (λ x rest. refl) (λ x rest. refl))) in
-    sorts_again f.sorts (functions ∷ constants ∷ variables ∷ relations ∷ steps ∷ goals ∷ []) p sort_free
-    ∙ functions_again f.functions (constants ∷ variables ∷ relations ∷ steps ∷ goals ∷ []) c (record { total = total_free; nullable = nullable_free })
-    ∙ constants_again f.constants (variables ∷ relations ∷ steps ∷ goals ∷ []) v const_free
-    ∙ variables_again f.variables (relations ∷ steps ∷ goals ∷ []) r var_free
-    ∙ relations_again f.relations (steps ∷ goals ∷ []) t relation_free
-    ∙ steps_again f.steps (goals ∷ []) g step_free
-    ∙ ap (fault (goals ∷ [])) (sym (append-nil g))
+    let h = free f in
+    sorts_again f.sorts (functions ∷ constants ∷ variables ∷ relations ∷ steps ∷ goals ∷ []) (from_functions f) h.sort
+    ∙ functions_again f.functions (constants ∷ variables ∷ relations ∷ steps ∷ goals ∷ []) (from_constants f) h.function
+    ∙ constants_again f.constants (variables ∷ relations ∷ steps ∷ goals ∷ []) (from_variables f) h.constant
+    ∙ variables_again f.variables (relations ∷ steps ∷ goals ∷ []) (from_relations f) h.variable
+    ∙ relations_again f.relations (steps ∷ goals ∷ []) (from_steps f) h.relation
+    ∙ steps_again f.steps (goals ∷ []) (from_goals f) h.step
+    ∙ ap (fault (goals ∷ [])) (sym (append-nil (from_goals f)))
     ∙ goals_again f.goals [] [] refl

@@ -4,3 +4,4 @@ pub mod Again
 pub mod Complete
 pub mod Sound
 pub mod First
+mod Unique

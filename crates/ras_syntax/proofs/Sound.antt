@@ -7,7 +7,7 @@ use Rattle.ras_lexer.specs.declared.fixed.Fixed.{Fixed}
 use Rattle.ras_lexer.specs.declared.fixed.Fixed.TheVariants as sign
 use Rattle.ras_lexer.specs.declared.token.Word.{Word}
 use Rattle.ras_lexer.specs.declared.token.Word.TheVariants as word
-use Rattle.ras_syntax.specs.Grammar.{Term, call, cell, plain, undef, term_words, Literal, comparison_sign, literal_words, Conjunction, always, all, and_words, conjunction_words, or_words, guard_words, initial_words, dotted_words, Sort, sort_words, Function, totality_sign, function_words, Constant, constant_words, Variable, variable_words, Column, comma_words, Relation, relation_words, Row, row_words, Param, param_words, Guard, Update, update_words, Assignment, assignment_words, Case, case_words, Each, each_words, Step, step_words, Goal, goal_words, File, file_words, IsFile, one, named, Text}
+use Rattle.ras_syntax.specs.Grammar.{Term, call, cell, plain, undef, term_words, Literal, comparison_sign, Conjunction, always, all, and_words, conjunction_words, or_words, initial_words, dotted_words, Sort, sort_words, Function, totality_sign, function_words, Constant, constant_words, Variable, variable_words, Column, comma_words, Relation, relation_words, Row, row_words, Param, param_words, Update, update_words, Assignment, assignment_words, Case, case_words, Each, each_words, Step, step_words, Goal, goal_words, IsFile, one, named, Text}
 use Rattle.ras_syntax.specs.Machine.{Sym, fixed, name, conjunction, comparison, term, tail, sorts, functions, constants, variables, initial, relations, columns, steps, rows, params, ands, ors, dotted, updates, eachs, cases, assignments, goals, fault, step, ended, then_on, same, is_name, base, index, start}
 
 -- what may stand behind the name that a term begins with

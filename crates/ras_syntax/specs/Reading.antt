@@ -1,5 +1,5 @@
 -- What a reader owes, whatever is to be read behind it.
-use Rattle.std.specs.Prelude.{◌≡◌, List, [], ◌∷◌, ◌++◌, Some, None, Result, Ok, Err}
+use Rattle.std.specs.Prelude.{◌≡◌, List, ◌++◌, Some, None, Result, Ok, Err}
 use Rattle.ras_lexer.specs.declared.token.Token.{Token}
 use Rattle.ras_syntax.specs.declared.fault.ReadError.{ReadError}
 use Rattle.ras_syntax.specs.declared.fault.ReadError.TheVariants.{Memory, Fault}

@@ -32,8 +32,10 @@ impl<'a> Reader<'a> {
     }
 
     fn sort(&mut self, at: u32) -> Result<Sort, ReadError>
-        ensures reads { Moves (m.name ∷ m.fixed signs.Semicolon ∷ []) self.old.rest.now self.new.rest.now (λ x. []) result }
-        ensures took { Took (places.at at signs.Sort ∷ self.old.rest.now) self.new.rest.now (λ x. places.of_sort x) result }
+        ensures reads { Moves (m.name ∷ m.fixed signs.Semicolon ∷ []) self.old.rest.now self.new.rest.now
+            (λ x. []) result }
+        ensures took { Took (places.at at signs.Sort ∷ self.old.rest.now) self.new.rest.now
+            (λ x. places.of_sort x) result }
     {
         let name = self.name()?;
         let semicolon = self.expect(Fixed::Semicolon)?;
@@ -46,7 +48,9 @@ impl<'a> Reader<'a> {
 
     /// Takes `total` or `nullable`, where the tokens begin with one.
     fn eat_totality(&mut self) -> Option<(u32, Totality)>
-        ensures { MatchOption result ((begins signs.Total (words self.old.rest.now) ≡ false) × (begins signs.Nullable (words self.old.rest.now) ≡ false) × (self.new.rest.now ≡ self.old.rest.now))
+        ensures { MatchOption result
+            ((begins signs.Total (words self.old.rest.now) ≡ false)
+            × (begins signs.Nullable (words self.old.rest.now) ≡ false) × (self.new.rest.now ≡ self.old.rest.now))
             (λ x. self.old.rest.now ≡ places.at x.0 (places.of_totality x.1) ∷ self.new.rest.now) }
     {
         if let Some(at) = self.eat(Fixed::Total) {
@@ -62,7 +66,8 @@ impl<'a> Reader<'a> {
     #[tactic(auto, using(crate::proofs::Skips::no_functions, std::proofs::lemmas::Grind::common_steps))]
     pub fn functions(&mut self, alloc: Global) -> Result<Vec<Function>, ReadError>
         ensures reads { Moves (m.functions ∷ []) self.old.rest.now self.new.rest.now (λ x. []) result }
-        ensures took { Took self.old.rest.now self.new.rest.now (λ x. flat_map places.of_function x.items) result }
+        ensures took { Took self.old.rest.now self.new.rest.now (λ x. flat_map places.of_function x.items)
+            result }
     {
         let mut functions = Vec::new(alloc);
         while let Some((at, totality)) = self.eat_totality() {
@@ -73,8 +78,10 @@ impl<'a> Reader<'a> {
     }
 
     fn function(&mut self, at: u32, totality: Totality) -> Result<Function, ReadError>
-        ensures reads { Moves (m.name ∷ m.fixed signs.Colon ∷ m.name ∷ m.fixed signs.Arrow ∷ m.name ∷ m.fixed signs.Semicolon ∷ []) self.old.rest.now self.new.rest.now (λ x. []) result }
-        ensures took { Took (places.at at (places.of_totality totality) ∷ self.old.rest.now) self.new.rest.now (λ x. places.of_function x) result }
+        ensures reads { Moves (m.name ∷ m.fixed signs.Colon ∷ m.name ∷ m.fixed signs.Arrow ∷ m.name ∷
+            m.fixed signs.Semicolon ∷ []) self.old.rest.now self.new.rest.now (λ x. []) result }
+        ensures took { Took (places.at at (places.of_totality totality) ∷ self.old.rest.now)
+            self.new.rest.now (λ x. places.of_function x) result }
     {
         let name = self.name()?;
         let colon = self.expect(Fixed::Colon)?;
@@ -98,7 +105,8 @@ impl<'a> Reader<'a> {
     #[tactic(auto, using(crate::proofs::Skips::no_constants, std::proofs::lemmas::Grind::common_steps))]
     pub fn constants(&mut self, alloc: Global) -> Result<Vec<Constant>, ReadError>
         ensures reads { Moves (m.constants ∷ []) self.old.rest.now self.new.rest.now (λ x. []) result }
-        ensures took { Took self.old.rest.now self.new.rest.now (λ x. flat_map places.of_constant x.items) result }
+        ensures took { Took self.old.rest.now self.new.rest.now (λ x. flat_map places.of_constant x.items)
+            result }
     {
         let mut constants = Vec::new(alloc);
         while let Some(at) = self.eat(Fixed::Const) {
@@ -109,8 +117,10 @@ impl<'a> Reader<'a> {
     }
 
     fn constant(&mut self, at: u32) -> Result<Constant, ReadError>
-        ensures reads { Moves (m.name ∷ m.fixed signs.Colon ∷ m.name ∷ m.fixed signs.Semicolon ∷ []) self.old.rest.now self.new.rest.now (λ x. []) result }
-        ensures took { Took (places.at at signs.Const ∷ self.old.rest.now) self.new.rest.now (λ x. places.of_constant x) result }
+        ensures reads { Moves (m.name ∷ m.fixed signs.Colon ∷ m.name ∷ m.fixed signs.Semicolon ∷ [])
+            self.old.rest.now self.new.rest.now (λ x. []) result }
+        ensures took { Took (places.at at signs.Const ∷ self.old.rest.now) self.new.rest.now
+            (λ x. places.of_constant x) result }
     {
         let name = self.name()?;
         let colon = self.expect(Fixed::Colon)?;
@@ -129,7 +139,8 @@ impl<'a> Reader<'a> {
     #[tactic(auto, using(crate::proofs::Skips::no_variables, std::proofs::lemmas::Grind::common_steps))]
     pub fn variables(&mut self, alloc: Global) -> Result<Vec<Variable>, ReadError>
         ensures reads { Moves (m.variables ∷ []) self.old.rest.now self.new.rest.now (λ x. []) result }
-        ensures took { Took self.old.rest.now self.new.rest.now (λ x. flat_map places.of_variable x.items) result }
+        ensures took { Took self.old.rest.now self.new.rest.now (λ x. flat_map places.of_variable x.items)
+            result }
     {
         let mut variables = Vec::new(alloc);
         while let Some(at) = self.eat(Fixed::Var) {
@@ -141,8 +152,11 @@ impl<'a> Reader<'a> {
     }
 
     fn variable(&mut self, at: u32) -> Result<Variable, ReadError>
-        ensures reads { Moves (m.name ∷ m.fixed signs.Colon ∷ m.name ∷ m.initial ∷ m.fixed signs.Semicolon ∷ []) self.old.rest.now self.new.rest.now (λ x. []) result }
-        ensures took { Took (places.at at signs.Var ∷ self.old.rest.now) self.new.rest.now (λ x. places.of_variable x) result }
+        ensures reads { Moves
+            (m.name ∷ m.fixed signs.Colon ∷ m.name ∷ m.initial ∷ m.fixed signs.Semicolon ∷ [])
+            self.old.rest.now self.new.rest.now (λ x. []) result }
+        ensures took { Took (places.at at signs.Var ∷ self.old.rest.now) self.new.rest.now
+            (λ x. places.of_variable x) result }
     {
         let name = self.name()?;
         let colon = self.expect(Fixed::Colon)?;
@@ -177,7 +191,8 @@ impl<'a> Reader<'a> {
     #[tactic(auto, using(crate::proofs::Skips::no_relations, std::proofs::lemmas::Grind::common_steps))]
     pub fn relations(&mut self, alloc: Global) -> Result<Vec<Relation>, ReadError>
         ensures reads { Moves (m.relations ∷ []) self.old.rest.now self.new.rest.now (λ x. []) result }
-        ensures took { Took self.old.rest.now self.new.rest.now (λ x. flat_map places.of_relation x.items) result }
+        ensures took { Took self.old.rest.now self.new.rest.now (λ x. flat_map places.of_relation x.items)
+            result }
     {
         let mut relations = Vec::new(alloc);
         while let Some(at) = self.eat(Fixed::Relation) {
@@ -188,8 +203,11 @@ impl<'a> Reader<'a> {
     }
 
     fn relation(&mut self, alloc: Global, at: u32) -> Result<Relation, ReadError>
-        ensures reads { Moves (m.name ∷ m.fixed signs.OpenParen ∷ m.name ∷ m.fixed signs.Colon ∷ m.name ∷ m.columns ∷ m.fixed signs.CloseParen ∷ m.fixed signs.Semicolon ∷ []) self.old.rest.now self.new.rest.now (λ x. []) result }
-        ensures took { Took (places.at at signs.Relation ∷ self.old.rest.now) self.new.rest.now (λ x. places.of_relation x) result }
+        ensures reads { Moves (m.name ∷ m.fixed signs.OpenParen ∷ m.name ∷ m.fixed signs.Colon ∷ m.name ∷
+            m.columns ∷ m.fixed signs.CloseParen ∷ m.fixed signs.Semicolon ∷ []) self.old.rest.now
+            self.new.rest.now (λ x. []) result }
+        ensures took { Took (places.at at signs.Relation ∷ self.old.rest.now) self.new.rest.now
+            (λ x. places.of_relation x) result }
     {
         let name = self.name()?;
         let open = self.expect(Fixed::OpenParen)?;
@@ -209,7 +227,8 @@ impl<'a> Reader<'a> {
     }
 
     fn column(&mut self) -> Result<Column, ReadError>
-        ensures reads { Moves (m.name ∷ m.fixed signs.Colon ∷ m.name ∷ []) self.old.rest.now self.new.rest.now (λ x. []) result }
+        ensures reads { Moves (m.name ∷ m.fixed signs.Colon ∷ m.name ∷ []) self.old.rest.now self.new.rest.now
+            (λ x. []) result }
         ensures took { Took self.old.rest.now self.new.rest.now (λ x. places.of_column x) result }
     {
         let name = self.name()?;
@@ -221,7 +240,8 @@ impl<'a> Reader<'a> {
     #[tactic(auto, using(crate::proofs::Skips::no_columns, std::proofs::lemmas::Grind::common_steps))]
     fn columns(&mut self, alloc: Global) -> Result<Vec<CommaColumn>, ReadError>
         ensures reads { Moves (m.columns ∷ []) self.old.rest.now self.new.rest.now (λ x. []) result }
-        ensures took { Took self.old.rest.now self.new.rest.now (λ x. flat_map places.of_comma x.items) result }
+        ensures took { Took self.old.rest.now self.new.rest.now (λ x. flat_map places.of_comma x.items)
+            result }
     {
         let mut columns = Vec::new(alloc);
         while let Some(comma) = self.eat(Fixed::Comma) {

@@ -24,7 +24,8 @@ pub(crate) enum Front {
 impl<'a> Reader<'a> {
     #[tactic(auto, using(crate::proofs::Skips::no_front, crate::proofs::Skips::no_tail))]
     fn front(&mut self) -> Result<Front, ReadError>
-        ensures reads { Moves (m.term ∷ []) self.old.rest.now self.new.rest.now (λ x. places.front_left x) result }
+        ensures reads { Moves (m.term ∷ []) self.old.rest.now self.new.rest.now (λ x. places.front_left x)
+            result }
         ensures took { Took self.old.rest.now self.new.rest.now (λ x. places.of_front x) result }
     {
         if let Some(at) = self.eat(Fixed::Undef) {
@@ -46,8 +47,10 @@ impl<'a> Reader<'a> {
 
     #[tactic(auto, using(crate::proofs::Loops::closes_more, std::proofs::lemmas::Grind::common_steps))]
     fn fronts(&mut self, alloc: Global) -> Result<(Vec<Call>, Base), ReadError>
-        ensures reads { Moves (m.term ∷ []) self.old.rest.now self.new.rest.now (λ x. m.closes (length x.0.items)) result }
-        ensures took { Took self.old.rest.now self.new.rest.now (λ x. flat_map places.of_call x.0.items ++ places.of_base x.1) result }
+        ensures reads { Moves (m.term ∷ []) self.old.rest.now self.new.rest.now
+            (λ x. m.closes (length x.0.items)) result }
+        ensures took { Took self.old.rest.now self.new.rest.now
+            (λ x. flat_map places.of_call x.0.items ++ places.of_base x.1) result }
     {
         let mut calls = Vec::new(alloc);
         loop {
@@ -61,7 +64,8 @@ impl<'a> Reader<'a> {
     #[tactic(auto, using(crate::proofs::Loops::closes_left, std::proofs::lemmas::Grind::common_steps))]
     fn closes(&mut self, alloc: Global, count: usize) -> Result<Vec<u32>, ReadError>
         ensures reads { Moves (m.closes count) self.old.rest.now self.new.rest.now (λ x. []) result }
-        ensures took { Took self.old.rest.now self.new.rest.now (λ x. flat_map places.of_close x.items) result }
+        ensures took { Took self.old.rest.now self.new.rest.now (λ x. flat_map places.of_close x.items)
+            result }
     {
         let mut places = Vec::new(alloc);
         for _ in 0..count {
@@ -88,7 +92,8 @@ impl<'a> Reader<'a> {
     #[tactic(auto, using(crate::proofs::Skips::no_comparison))]
     fn comparison(&mut self) -> Result<(u32, Comparison), ReadError>
         ensures reads { Moves (m.comparison ∷ []) self.old.rest.now self.new.rest.now (λ x. []) result }
-        ensures took { Took self.old.rest.now self.new.rest.now (λ x. places.at x.0 (places.of_comparison x.1) ∷ []) result }
+        ensures took { Took self.old.rest.now self.new.rest.now
+            (λ x. places.at x.0 (places.of_comparison x.1) ∷ []) result }
     {
         if let Some(at) = self.eat(Fixed::Equal) {
             return Ok((at, Comparison::Equal));
@@ -100,7 +105,8 @@ impl<'a> Reader<'a> {
     }
 
     fn literal(&mut self, alloc: Global) -> Result<Literal, ReadError>
-        ensures reads { Moves (m.term ∷ m.comparison ∷ m.term ∷ []) self.old.rest.now self.new.rest.now (λ x. []) result }
+        ensures reads { Moves (m.term ∷ m.comparison ∷ m.term ∷ []) self.old.rest.now self.new.rest.now
+            (λ x. []) result }
         ensures took { Took self.old.rest.now self.new.rest.now (λ x. places.of_literal x) result }
     {
         let left = self.term(alloc)?;
@@ -156,7 +162,8 @@ impl<'a> Reader<'a> {
 
     /// Reads a guard.
     pub fn guard(&mut self, alloc: Global) -> Result<Guard, ReadError>
-        ensures reads { Moves (m.conjunction ∷ m.ors ∷ []) self.old.rest.now self.new.rest.now (λ x. []) result }
+        ensures reads { Moves (m.conjunction ∷ m.ors ∷ []) self.old.rest.now self.new.rest.now (λ x. [])
+            result }
         ensures took { Took self.old.rest.now self.new.rest.now (λ x. places.of_guard x) result }
     {
         let first = self.conjunction(alloc)?;

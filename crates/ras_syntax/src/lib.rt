@@ -5,6 +5,7 @@
 mod declarations;
 mod fault;
 mod formulas;
+pub mod law;
 mod parsing;
 mod reader;
 mod steps;

@@ -84,7 +84,8 @@ pub fn parse(alloc: Global, tokens: &[Token], length: u32) -> Result<Tree, Synta
     ensures cases { Parses tokens.now length result }
 
     // A file is read, unless memory runs out.
-    ensures only { IsFile (words tokens.now) → (fault : SyntaxFault) → result ≡ Err (SyntaxError.Fault fault) → ⊥ }
+    ensures only { IsFile (words tokens.now) → (fault : SyntaxFault) → result ≡ Err
+        (SyntaxError.Fault fault) → ⊥ }
 {
     match whole(alloc, tokens) {
         Ok(file) => Ok(Tree { file }),

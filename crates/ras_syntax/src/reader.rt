@@ -27,7 +27,8 @@ fn is(word: &Word, fixed: Fixed) -> bool
 impl<'a> Reader<'a> {
     /// Takes the token, where the tokens begin with it, and gives its place.
     pub fn eat(&mut self, fixed: Fixed) -> Option<u32>
-        ensures { MatchOption result ((begins fixed (words self.old.rest.now) ≡ false) × (self.new.rest.now ≡ self.old.rest.now))
+        ensures { MatchOption result
+            ((begins fixed (words self.old.rest.now) ≡ false) × (self.new.rest.now ≡ self.old.rest.now))
             (λ x. self.old.rest.now ≡ places.at x fixed ∷ self.new.rest.now) }
     {
         let (first, rest) = self.rest.split_first()?;
@@ -53,7 +54,8 @@ impl<'a> Reader<'a> {
 
     /// Takes a name, where the tokens begin with one.
     pub fn eat_name(&mut self) -> Option<Name>
-        ensures { MatchOption result ((begins_name (words self.old.rest.now) ≡ false) × (self.new.rest.now ≡ self.old.rest.now))
+        ensures { MatchOption result
+            ((begins_name (words self.old.rest.now) ≡ false) × (self.new.rest.now ≡ self.old.rest.now))
             (λ x. self.old.rest.now ≡ places.of_name x ∷ self.new.rest.now) }
     {
         let (first, rest) = self.rest.split_first()?;

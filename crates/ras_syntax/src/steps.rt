@@ -28,8 +28,11 @@ impl<'a> Reader<'a> {
     }
 
     fn step(&mut self, alloc: Global, at: u32) -> Result<Step, ReadError>
-        ensures reads { Moves (m.name ∷ m.fixed signs.OpenBrace ∷ m.rows ∷ m.params ∷ m.fixed signs.When ∷ m.conjunction ∷ m.ors ∷ m.fixed signs.Semicolon ∷ m.updates ∷ m.eachs ∷ m.fixed signs.CloseBrace ∷ []) self.old.rest.now self.new.rest.now (λ x. []) result }
-        ensures took { Took (places.at at signs.Step ∷ self.old.rest.now) self.new.rest.now (λ x. places.of_step x) result }
+        ensures reads { Moves (m.name ∷ m.fixed signs.OpenBrace ∷ m.rows ∷ m.params ∷ m.fixed signs.When ∷
+            m.conjunction ∷ m.ors ∷ m.fixed signs.Semicolon ∷ m.updates ∷ m.eachs ∷
+            m.fixed signs.CloseBrace ∷ []) self.old.rest.now self.new.rest.now (λ x. []) result }
+        ensures took { Took (places.at at signs.Step ∷ self.old.rest.now) self.new.rest.now
+            (λ x. places.of_step x) result }
     {
         let name = self.name()?;
         let open = self.expect(Fixed::OpenBrace)?;
@@ -56,8 +59,12 @@ impl<'a> Reader<'a> {
 
     /// Reads what a step does, and its closing sign.
     fn effects(&mut self, alloc: Global) -> Result<(Vec<Update>, Vec<Each>, u32), ReadError>
-        ensures reads { Moves (m.updates ∷ m.eachs ∷ m.fixed signs.CloseBrace ∷ []) self.old.rest.now self.new.rest.now (λ x. []) result }
-        ensures took { Took self.old.rest.now self.new.rest.now (λ x. flat_map places.of_update x.0.items ++ (flat_map places.of_each x.1.items ++ places.only x.2 signs.CloseBrace)) result }
+        ensures reads { Moves (m.updates ∷ m.eachs ∷ m.fixed signs.CloseBrace ∷ []) self.old.rest.now
+            self.new.rest.now (λ x. []) result }
+        ensures took { Took self.old.rest.now self.new.rest.now
+            (λ x. flat_map places.of_update x.0.items
+            ++ (flat_map places.of_each x.1.items ++ places.only x.2 signs.CloseBrace))
+            result }
     {
         let updates = self.updates(alloc)?;
         let eachs = self.eachs(alloc)?;
@@ -80,8 +87,11 @@ impl<'a> Reader<'a> {
     }
 
     fn goal(&mut self, alloc: Global, at: u32) -> Result<Goal, ReadError>
-        ensures reads { Moves (m.fixed signs.OpenBrace ∷ m.rows ∷ m.fixed signs.When ∷ m.conjunction ∷ m.ors ∷ m.fixed signs.Semicolon ∷ m.fixed signs.CloseBrace ∷ []) self.old.rest.now self.new.rest.now (λ x. []) result }
-        ensures took { Took (places.at at signs.Unsafe ∷ self.old.rest.now) self.new.rest.now (λ x. places.of_goal x) result }
+        ensures reads { Moves (m.fixed signs.OpenBrace ∷ m.rows ∷ m.fixed signs.When ∷ m.conjunction ∷ m.ors ∷
+            m.fixed signs.Semicolon ∷ m.fixed signs.CloseBrace ∷ []) self.old.rest.now
+            self.new.rest.now (λ x. []) result }
+        ensures took { Took (places.at at signs.Unsafe ∷ self.old.rest.now) self.new.rest.now
+            (λ x. places.of_goal x) result }
     {
         let open = self.expect(Fixed::OpenBrace)?;
         let rows = self.rows(alloc)?;
@@ -114,8 +124,10 @@ impl<'a> Reader<'a> {
     }
 
     fn row(&mut self, at: u32) -> Result<Row, ReadError>
-        ensures reads { Moves (m.name ∷ m.fixed signs.Colon ∷ m.name ∷ m.fixed signs.Semicolon ∷ []) self.old.rest.now self.new.rest.now (λ x. []) result }
-        ensures took { Took (places.at at signs.Row ∷ self.old.rest.now) self.new.rest.now (λ x. places.of_row x) result }
+        ensures reads { Moves (m.name ∷ m.fixed signs.Colon ∷ m.name ∷ m.fixed signs.Semicolon ∷ [])
+            self.old.rest.now self.new.rest.now (λ x. []) result }
+        ensures took { Took (places.at at signs.Row ∷ self.old.rest.now) self.new.rest.now
+            (λ x. places.of_row x) result }
     {
         let name = self.name()?;
         let colon = self.expect(Fixed::Colon)?;
@@ -133,7 +145,8 @@ impl<'a> Reader<'a> {
     #[tactic(auto, using(crate::proofs::Skips::no_params, std::proofs::lemmas::Grind::common_steps))]
     fn params(&mut self, alloc: Global) -> Result<Vec<Param>, ReadError>
         ensures reads { Moves (m.params ∷ []) self.old.rest.now self.new.rest.now (λ x. []) result }
-        ensures took { Took self.old.rest.now self.new.rest.now (λ x. flat_map places.of_param x.items) result }
+        ensures took { Took self.old.rest.now self.new.rest.now (λ x. flat_map places.of_param x.items)
+            result }
     {
         let mut params = Vec::new(alloc);
         while let Some(at) = self.eat(Fixed::Param) {
@@ -144,8 +157,10 @@ impl<'a> Reader<'a> {
     }
 
     fn param(&mut self, at: u32) -> Result<Param, ReadError>
-        ensures reads { Moves (m.name ∷ m.fixed signs.Colon ∷ m.name ∷ m.fixed signs.Semicolon ∷ []) self.old.rest.now self.new.rest.now (λ x. []) result }
-        ensures took { Took (places.at at signs.Param ∷ self.old.rest.now) self.new.rest.now (λ x. places.of_param x) result }
+        ensures reads { Moves (m.name ∷ m.fixed signs.Colon ∷ m.name ∷ m.fixed signs.Semicolon ∷ [])
+            self.old.rest.now self.new.rest.now (λ x. []) result }
+        ensures took { Took (places.at at signs.Param ∷ self.old.rest.now) self.new.rest.now
+            (λ x. places.of_param x) result }
     {
         let name = self.name()?;
         let colon = self.expect(Fixed::Colon)?;
@@ -163,7 +178,8 @@ impl<'a> Reader<'a> {
     #[tactic(auto, using(crate::proofs::Skips::no_updates, std::proofs::lemmas::Grind::common_steps))]
     fn updates(&mut self, alloc: Global) -> Result<Vec<Update>, ReadError>
         ensures reads { Moves (m.updates ∷ []) self.old.rest.now self.new.rest.now (λ x. []) result }
-        ensures took { Took self.old.rest.now self.new.rest.now (λ x. flat_map places.of_update x.items) result }
+        ensures took { Took self.old.rest.now self.new.rest.now (λ x. flat_map places.of_update x.items)
+            result }
     {
         let mut updates = Vec::new(alloc);
         while let Some(target) = self.eat_name() {
@@ -175,8 +191,10 @@ impl<'a> Reader<'a> {
     }
 
     fn update(&mut self, alloc: Global, target: Name) -> Result<Update, ReadError>
-        ensures reads { Moves (m.dotted ∷ m.fixed signs.Assign ∷ m.term ∷ m.fixed signs.Semicolon ∷ []) self.old.rest.now self.new.rest.now (λ x. []) result }
-        ensures took { Took (places.of_name target ∷ self.old.rest.now) self.new.rest.now (λ x. places.of_update x) result }
+        ensures reads { Moves (m.dotted ∷ m.fixed signs.Assign ∷ m.term ∷ m.fixed signs.Semicolon ∷ [])
+            self.old.rest.now self.new.rest.now (λ x. []) result }
+        ensures took { Took (places.of_name target ∷ self.old.rest.now) self.new.rest.now
+            (λ x. places.of_update x) result }
     {
         let column = self.dotted()?;
         let at = self.expect(Fixed::Assign)?;
@@ -219,8 +237,13 @@ impl<'a> Reader<'a> {
     }
 
     fn each(&mut self, alloc: Global, at: u32) -> Result<Each, ReadError>
-        ensures reads { Moves (m.name ∷ m.fixed signs.Colon ∷ m.name ∷ m.fixed signs.OpenBrace ∷ m.fixed signs.If ∷ m.conjunction ∷ m.fixed signs.OpenBrace ∷ m.assignments ∷ m.fixed signs.CloseBrace ∷ m.cases ∷ m.fixed signs.CloseBrace ∷ []) self.old.rest.now self.new.rest.now (λ x. []) result }
-        ensures took { Took (places.at at signs.Each ∷ self.old.rest.now) self.new.rest.now (λ x. places.of_each x) result }
+        ensures reads { Moves
+            (m.name ∷ m.fixed signs.Colon ∷ m.name ∷ m.fixed signs.OpenBrace ∷ m.fixed signs.If ∷
+            m.conjunction ∷ m.fixed signs.OpenBrace ∷ m.assignments ∷ m.fixed signs.CloseBrace ∷
+            m.cases ∷ m.fixed signs.CloseBrace ∷ []) self.old.rest.now self.new.rest.now (λ x. [])
+            result }
+        ensures took { Took (places.at at signs.Each ∷ self.old.rest.now) self.new.rest.now
+            (λ x. places.of_each x) result }
     {
         let row = self.name()?;
         let colon = self.expect(Fixed::Colon)?;
@@ -242,7 +265,8 @@ impl<'a> Reader<'a> {
     }
 
     fn first_case(&mut self, alloc: Global) -> Result<Case, ReadError>
-        ensures reads { Moves (m.fixed signs.If ∷ m.conjunction ∷ m.fixed signs.OpenBrace ∷ m.assignments ∷ m.fixed signs.CloseBrace ∷ []) self.old.rest.now self.new.rest.now (λ x. []) result }
+        ensures reads { Moves (m.fixed signs.If ∷ m.conjunction ∷ m.fixed signs.OpenBrace ∷ m.assignments ∷
+            m.fixed signs.CloseBrace ∷ []) self.old.rest.now self.new.rest.now (λ x. []) result }
         ensures took { Took self.old.rest.now self.new.rest.now (λ x. places.of_case x) result }
     {
         let at = self.expect(Fixed::If)?;
@@ -263,8 +287,11 @@ impl<'a> Reader<'a> {
     }
 
     fn case(&mut self, alloc: Global, at: u32) -> Result<Case, ReadError>
-        ensures reads { Moves (m.conjunction ∷ m.fixed signs.OpenBrace ∷ m.assignments ∷ m.fixed signs.CloseBrace ∷ []) self.old.rest.now self.new.rest.now (λ x. []) result }
-        ensures took { Took (places.at at signs.If ∷ self.old.rest.now) self.new.rest.now (λ x. places.of_case x) result }
+        ensures reads { Moves
+            (m.conjunction ∷ m.fixed signs.OpenBrace ∷ m.assignments ∷ m.fixed signs.CloseBrace ∷
+            []) self.old.rest.now self.new.rest.now (λ x. []) result }
+        ensures took { Took (places.at at signs.If ∷ self.old.rest.now) self.new.rest.now
+            (λ x. places.of_case x) result }
     {
         let condition = self.conjunction(alloc)?;
         let open = self.expect(Fixed::OpenBrace)?;
@@ -282,7 +309,8 @@ impl<'a> Reader<'a> {
     #[tactic(auto, using(crate::proofs::Skips::no_assignments, std::proofs::lemmas::Grind::common_steps))]
     fn assignments(&mut self, alloc: Global) -> Result<Vec<Assignment>, ReadError>
         ensures reads { Moves (m.assignments ∷ []) self.old.rest.now self.new.rest.now (λ x. []) result }
-        ensures took { Took self.old.rest.now self.new.rest.now (λ x. flat_map places.of_assignment x.items) result }
+        ensures took { Took self.old.rest.now self.new.rest.now (λ x. flat_map places.of_assignment x.items)
+            result }
     {
         let mut assignments = Vec::new(alloc);
         while let Some(row) = self.eat_name() {
@@ -293,8 +321,10 @@ impl<'a> Reader<'a> {
     }
 
     fn assignment(&mut self, alloc: Global, row: Name) -> Result<Assignment, ReadError>
-        ensures reads { Moves (m.fixed signs.Dot ∷ m.name ∷ m.fixed signs.Assign ∷ m.term ∷ m.fixed signs.Semicolon ∷ []) self.old.rest.now self.new.rest.now (λ x. []) result }
-        ensures took { Took (places.of_name row ∷ self.old.rest.now) self.new.rest.now (λ x. places.of_assignment x) result }
+        ensures reads { Moves (m.fixed signs.Dot ∷ m.name ∷ m.fixed signs.Assign ∷ m.term ∷
+            m.fixed signs.Semicolon ∷ []) self.old.rest.now self.new.rest.now (λ x. []) result }
+        ensures took { Took (places.of_name row ∷ self.old.rest.now) self.new.rest.now
+            (λ x. places.of_assignment x) result }
     {
         let dot = self.expect(Fixed::Dot)?;
         let column = self.name()?;
