@@ -1,11 +1,10 @@
 -- Facts that clash hold in no database.
-use Rattle.std.proofs.Common.{◌≡◌, ℕ, zero, suc, ◌+◌, ◌<◌, ◌≤◌, Bool, true, false, List, [], ◌∷◌, ◌++◌, length, get_or, nat_eq, refl, sym, ◌∙◌, ap, subst, arith}
-use Rattle.std.specs.Prelude.{slice_get, Option, Some, None, option_and_then, All, Contains, IsTrue, not}
+use Rattle.std.proofs.Common.{◌≡◌, ℕ, true, false, List, [], ◌∷◌, ◌++◌, get_or, nat_eq, refl, sym, ◌∙◌, ap, subst, arith}
+use Rattle.std.specs.Prelude.{slice_get, Option, Some, None, option_and_then, All, Contains, IsTrue}
 use Rattle.std.proofs.lemmas.Option.{slice_get_within, get_or_from_slice_get, slice_get-get_or}
 use Rattle.std.proofs.lemmas.List.Elements.{All-contains, All-head, All-tail, All-nil, All-cons}
 use Rattle.std.proofs.lemmas.Bool.{eqb-true, eq-eqb, not-true}
 use Rattle.ras_logic.specs.declared.ids.SortId.{SortId}
-use Rattle.ras_logic.specs.declared.ids.ConstId.{ConstId}
 use Rattle.ras_logic.specs.declared.ids.FunId.{FunId}
 use Rattle.ras_logic.specs.declared.ids.RelId.{RelId}
 use Rattle.ras_logic.specs.declared.function.FunDecl.{FunDecl}
@@ -16,12 +15,12 @@ use Rattle.ras_logic.specs.declared.literal.Literal.{Literal}
 use Rattle.ras_logic.specs.declared.literal.Literal.TheVariants.{Equal}
 use Rattle.ras_logic.specs.Shapes.{ShapeParts}
 use Rattle.ras_logic.specs.Schemas.{HasSorts, IsSchema}
-use Rattle.ras_logic.specs.Databases.{IsElement, IsDatabase, image, constant_of}
-use Rattle.ras_logic.specs.Terms.{constant_term, undef_term, image_term, sort_of_base, sort_after, sort_along, sort_of}
+use Rattle.ras_logic.specs.Databases.{IsDatabase, image}
+use Rattle.ras_logic.specs.Terms.{undef_term, image_term, sort_of_base, sort_after, sort_along, sort_of}
 use Rattle.ras_logic.specs.Formulas.{LiteralFits}
-use Rattle.ras_logic.specs.Truth.{AreValues, AllHold, holds, value_of_base, image_along, value}
-use Rattle.ras_logic.proofs.TermSorts.{Through, and_then_through, and_then_from, SortStep, sort_after-step, sort_after-known, sort_along-append, image_along-append, image-total, value-element, sort_of-undef, undef-sort, sort_of-constant, constant-sort}
-use Rattle.ras_logic.specs.Clashes.{sides, IsPrefixOf, IsTerm, Together, Clash, FactsClash, of_literals, a_constant, an_undef, itself, back, through, stated, same_images, image_of_undef, only_undef, stated_apart, two_constants, constant_undef}
+use Rattle.ras_logic.specs.Truth.{AreValues, AllHold, holds, value_of_base, value}
+use Rattle.ras_logic.proofs.TermSorts.{and_then_through, and_then_from, sort_after-step, sort_after-known, sort_along-append, image_along-append, image-total, value-element, sort_of-undef, undef-sort, sort_of-constant, constant-sort}
+use Rattle.ras_logic.specs.Clashes.{sides, IsPrefixOf, IsTerm, Together, FactsClash, of_literals, a_constant, an_undef, itself, back, through, stated, same_images, image_of_undef, only_undef, stated_apart, two_constants, constant_undef}
 
 -- what holds of each element holds of one that is read
 pub from_known : {A : Type 0} (P : A → Type 0) (xs : List A) → All P xs → (k : ℕ) (x : A) → slice_get xs k ≡ Some x → P x

@@ -1,12 +1,9 @@
 -- Where nodes close a premise, whatever satisfies the premise satisfies a formula.
-use Rattle.std.proofs.Common.{◌≡◌, ℕ, zero, suc, ◌+◌, ◌<◌, ◌≤◌, Bool, true, false, List, [], ◌∷◌, ◌++◌, map, length, get_or, nat_eq, refl, sym, ◌∙◌, ap, subst, arith, ◌⊎◌, inl, inr, ⊎_elim}
-use Rattle.std.specs.Prelude.{slice_get, Option, Some, None, option_and_then, All, Contains, IsTrue, not, ⊤}
+use Rattle.std.proofs.Common.{◌≡◌, ℕ, zero, suc, Bool, true, false, List, [], ◌∷◌, ◌++◌, map, get_or, nat_eq, refl, ◌∙◌, subst, ◌⊎◌, inl, inr, ⊎_elim}
+use Rattle.std.specs.Prelude.{slice_get, Some, option_and_then, All, IsTrue, not}
 use Rattle.std.specs.List.{AllByRecursion, AllZip}
-use Rattle.std.proofs.lemmas.Option.{slice_get_within, get_or_from_slice_get, slice_get-get_or}
-use Rattle.std.proofs.lemmas.List.Elements.{All-contains, All-head, All-tail, All-nil, All-cons}
-use Rattle.std.proofs.lemmas.Bool.{eqb-true, eq-eqb, not-true}
+use Rattle.std.proofs.lemmas.List.Elements.{All-head, All-tail, All-nil, All-cons}
 use Rattle.ras_logic.specs.declared.ids.SortId.{SortId}
-use Rattle.ras_logic.specs.declared.ids.FunId.{FunId}
 use Rattle.ras_logic.specs.declared.ids.RelId.{RelId}
 use Rattle.ras_logic.specs.declared.raw_db.RawDb.{RawDb}
 use Rattle.ras_logic.specs.declared.values.Values.{Values}
@@ -19,10 +16,10 @@ use Rattle.ras_logic.specs.declared.problem.Problem.{Problem}
 use Rattle.ras_logic.specs.Shapes.{ShapeParts}
 use Rattle.ras_logic.specs.Schemas.{IsSchema}
 use Rattle.ras_logic.specs.Databases.{IsDatabase}
-use Rattle.ras_logic.specs.Terms.{base_term, sort_of_base, sort_along, sort_of, replace_term}
+use Rattle.ras_logic.specs.Terms.{sort_of_base, sort_along, sort_of, replace_term}
 use Rattle.ras_logic.specs.Formulas.{LiteralFits, Fits, IsCube, negated, replace}
 use Rattle.ras_logic.specs.Truth.{AreValues, AllHold, Satisfies, holds, value, value_of_base, image_along}
-use Rattle.ras_logic.proofs.TermSorts.{Through, and_then_through, and_then_from, and_then-and_then, sort_along-append, image_along-append}
+use Rattle.ras_logic.proofs.TermSorts.{and_then_through, and_then_from, and_then-and_then, sort_along-append, image_along-append}
 use Rattle.ras_logic.specs.declared.tree.Node.{Node}
 use Rattle.ras_logic.specs.declared.tree.Node.TheVariants.{Leaf, Split}
 use Rattle.ras_logic.specs.Refutations.{AreRowsOf, chosen_row, children_facts, CloseAll, Closes, HoldsOfSome}

@@ -1,7 +1,7 @@
 -- A term that has a sort stands for an element of that sort.
-use Rattle.std.proofs.Common.{◌≡◌, ℕ, zero, suc, ◌+◌, ◌<◌, ◌≤◌, Bool, true, false, List, [], ◌∷◌, ◌++◌, length, get_or, nat_eq, refl, sym, ◌∙◌, ap, subst, arith, cond, drop, drop-cons, add-one}
-use Rattle.std.specs.Prelude.{slice_get, Option, Some, None, option_and_then, All, nat_lt}
-use Rattle.std.proofs.lemmas.Option.{slice_get_within, get_or_from_slice_get}
+use Rattle.std.proofs.Common.{◌≡◌, ℕ, zero, suc, ◌+◌, ◌<◌, Bool, true, false, List, [], ◌∷◌, ◌++◌, length, get_or, nat_eq, refl, sym, ap, subst, arith, cond, drop, drop-cons, add-one}
+use Rattle.std.specs.Prelude.{slice_get, Option, Some, None, option_and_then, nat_lt}
+use Rattle.std.proofs.lemmas.Option.{get_or_from_slice_get}
 use Rattle.std.proofs.lemmas.Bool.{eqb-true, eq-eqb, lt-ltb}
 use Rattle.ras_logic.specs.declared.ids.SortId.{SortId}
 use Rattle.ras_logic.specs.declared.ids.FunId.{FunId}
@@ -15,9 +15,9 @@ use Rattle.ras_logic.specs.declared.term.Base.TheVariants.{Var, Cell, Constant, 
 use Rattle.ras_logic.specs.declared.term.Term.{Term}
 use Rattle.ras_logic.specs.Schemas.{SchemaParts}
 use Rattle.ras_logic.specs.Shapes.{ShapeParts}
-use Rattle.ras_logic.specs.Databases.{IsElement, IsDatabase, IsTable, image, size_of}
+use Rattle.ras_logic.specs.Databases.{IsElement, IsDatabase, image}
 use Rattle.ras_logic.specs.Terms.{sort_of_base, sort_after, sort_along, sort_of}
-use Rattle.ras_logic.specs.Truth.{AreElements, AreValues, value_of_base, image_along, value}
+use Rattle.ras_logic.specs.Truth.{AreValues, value_of_base, image_along, value}
 
 -- what a chain of two partial steps came through
 pub record Through {A B : Type 0} (f : A → Option B) (o : Option A) (y : B) : Type 0 where

@@ -1,7 +1,7 @@
 -- When facts cannot hold together: the least relation on terms that is closed under the facts and the rules for functions.
 -- The literals that give the terms and the facts stand apart, since facts may be learned after the terms; the facts speak
 -- of these terms.
-use Rattle.std.specs.Prelude.{◌≡◌, ◌≢◌, ℕ, ◌<◌, true, false, List, [], ◌∷◌, ◌++◌, length, slice_get, Some, Contains}
+use Rattle.std.specs.Prelude.{◌≡◌, ◌≢◌, ◌<◌, true, false, List, [], ◌∷◌, ◌++◌, length, slice_get, Some, Contains}
 use Rattle.ras_logic.specs.declared.ids.FunId.{FunId}
 use Rattle.ras_logic.specs.declared.ids.SortId.{SortId}
 use Rattle.ras_logic.specs.declared.ids.ConstId.{ConstId}

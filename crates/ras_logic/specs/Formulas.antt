@@ -1,5 +1,5 @@
 -- Literals, problems and cubes that fit a shape.
-use Rattle.std.specs.Prelude.{◌≡◌, ℕ, not, List, [], Some, All}
+use Rattle.std.specs.Prelude.{◌≡◌, not, List, [], Some, All}
 use Rattle.ras_logic.specs.declared.ids.SortId.{SortId}
 use Rattle.ras_logic.specs.declared.ids.RelId.{RelId}
 use Rattle.ras_logic.specs.declared.term.Base.{Base}

@@ -2,7 +2,6 @@
 use Rattle.std.specs.Prelude.{◌≡◌, ℕ, ◌+◌, ◌<◌, ◌≤◌, List, [], ◌∷◌, length, take, All}
 use Rattle.ras_logic.specs.declared.ids.SortId.{SortId}
 use Rattle.ras_logic.specs.declared.function.FunDecl.{FunDecl}
-use Rattle.ras_logic.specs.declared.kind.Kind.{Kind}
 use Rattle.ras_logic.specs.declared.kind.Kind.TheVariants.{Sort, Function, Constant}
 use Rattle.ras_logic.specs.declared.schema_fault.SchemaFault.{SchemaFault}
 use Rattle.ras_logic.specs.declared.schema_fault.SchemaFault.TheVariants.{TooMany, BadSort, Cycle}

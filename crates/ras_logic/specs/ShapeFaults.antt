@@ -1,7 +1,6 @@
 -- The first fault of what is no shape.
-use Rattle.std.specs.Prelude.{ℕ, ◌<◌, ◌≤◌, List, length, All, Any, flat_map}
+use Rattle.std.specs.Prelude.{◌<◌, ◌≤◌, List, length, All, Any, flat_map}
 use Rattle.ras_logic.specs.declared.ids.SortId.{SortId}
-use Rattle.ras_logic.specs.declared.kind.Kind.{Kind}
 use Rattle.ras_logic.specs.declared.kind.Kind.TheVariants.{Variable, Relation, Column}
 use Rattle.ras_logic.specs.declared.shape_fault.ShapeFault.{ShapeFault}
 use Rattle.ras_logic.specs.declared.shape_fault.ShapeFault.TheVariants.{TooMany, BadSort, NoColumn}

@@ -1,5 +1,5 @@
 -- What a shape is: a schema with the artifact variables and relations over it.
-use Rattle.std.specs.Prelude.{ℕ, ◌<◌, List, length, slice_get, Option, All}
+use Rattle.std.specs.Prelude.{◌<◌, List, length, slice_get, Option, All}
 use Rattle.ras_logic.specs.declared.ids.SortId.{SortId}
 use Rattle.ras_logic.specs.declared.ids.RelId.{RelId}
 use Rattle.ras_logic.specs.Schemas.{SchemaParts, IsSort, IsSchema}

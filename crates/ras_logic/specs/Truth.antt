@@ -1,5 +1,5 @@
 -- What a term stands for and when a literal holds, in a database and under values.
-use Rattle.std.specs.Prelude.{◌≡◌, ℕ, ◌<◌, Bool, true, false, not, List, [], ◌∷◌, length, get_or, slice_get, nat_eq, IsTrue, All, Some}
+use Rattle.std.specs.Prelude.{◌≡◌, ℕ, Bool, true, false, not, List, [], ◌∷◌, length, get_or, slice_get, nat_eq, IsTrue, All, Some}
 use Rattle.ras_logic.specs.declared.ids.SortId.{SortId}
 use Rattle.ras_logic.specs.declared.ids.FunId.{FunId}
 use Rattle.ras_logic.specs.declared.ids.RelId.{RelId}

@@ -1,4 +1,4 @@
-use Rattle.std.proofs.Common.{arith, false, take, ◌+◌, All, rules}
+use Rattle.std.proofs.Common.{arith, false, take, ◌+◌, rules}
 use Rattle.std.proofs.lemmas.List.Elements.{All-take}
 use Rattle.ras_logic.specs.Schemas.{HasSorts}
 use Rattle.ras_logic.specs.Chains.{HasLongChain}

@@ -1,6 +1,5 @@
-use Rattle.std.proofs.Common.{◌<◌, true, false, ◌≡◌, ◌+◌, suc, add-one, get_or, arith, sym, ◌∙◌, ap}
+use Rattle.std.proofs.Common.{◌<◌, true, false, ◌≡◌, add-one, arith, sym, ◌∙◌}
 use Rattle.std.proofs.lemmas.List.{get_or-replicate}
-use Rattle.ras_logic.specs.Chains.{has_chain}
 use Rattle.ras_logic.proofs.Chains.{has_chain-step, marked-long, unmarked-acyclic}
 use Rattle.ras_logic.proofs.cycles.has_long_chain.Goals as goal
 

@@ -1,6 +1,5 @@
-use Rattle.std.proofs.Common.{refl, length-set, true, false, ◌≡◌, get_or, nat_eq, arith, ◌&&◌, ◌||◌, sym, ◌∙◌, length, take}
+use Rattle.std.proofs.Common.{refl, length-set, false}
 use Rattle.std.proofs.lemmas.List.{get_or-replicate}
-use Rattle.ras_logic.specs.declared.function.FunDecl.{FunDecl}
 use Rattle.ras_logic.proofs.Chains.{mark-step, mark-skip}
 use Rattle.ras_logic.proofs.cycles.sources_of.Goals as goal
 use Rattle.ras_logic.proofs.cycles.sources_of.Goals.{then-marked-f, else-marked-f}

@@ -1,4 +1,4 @@
-use Rattle.std.proofs.Common.{ℕ, List, length, ◌∷◌, ◌<◌, ◌≤◌, ⊎_elim, arith}
+use Rattle.std.proofs.Common.{ℕ, List, length, ◌∷◌, ⊎_elim}
 use Rattle.std.specs.Prelude.{All}
 use Rattle.std.proofs.lemmas.Bool.{cases_lt}
 use Rattle.ras_logic.specs.declared.function.FunDecl.{FunDecl}

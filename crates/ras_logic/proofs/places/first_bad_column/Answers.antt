@@ -1,8 +1,7 @@
-use Rattle.std.proofs.Common.{◌≤◌, ◌+◌, ◌≡◌, length, List, arith, sym, ◌∙◌, ap, subst, All, length-append}
+use Rattle.std.proofs.Common.{◌≤◌, ◌+◌, length, List, arith, sym, ap, subst, All, length-append}
 use Rattle.ras_logic.specs.declared.ids.SortId.{SortId}
 use Rattle.ras_logic.specs.Places.{IsFirstBad}
 use Rattle.ras_logic.specs.Schemas.{IsSort}
-use Rattle.ras_logic.specs.ShapeFaults.{all_columns}
 use Rattle.ras_logic.proofs.AllSteps.{all_step}
 use Rattle.ras_logic.proofs.Columns.{all_columns-more, first_in_all}
 use Rattle.ras_logic.proofs.places.first_bad_column.Goals as goal
