@@ -141,6 +141,12 @@ is_cube-passed p h =
     empty [] e = refl
     empty (x ∷ xs) e = absurd (omega (arith, e))
 
+pub are_cubes-passed : (ps : List Problem) → list_all is_cube ps ≡ true → All IsCube ps
+are_cubes-passed = list_all-All is_cube IsCube is_cube-passed
+
+pub are_fits-passed : (shape : ShapeParts) (ps : List Problem) → list_all (fits shape) ps ≡ true → All (Fits shape) ps
+are_fits-passed shape = list_all-All (fits shape) (Fits shape) (fits-passed shape)
+
 -- elements and values
 abbrev pub are_elements : RawDb → List SortId → List ℕ → Bool
 are_elements d sorts numbers = nat_eq (length numbers) (length sorts) && each (λ k s. nat_le (get_or numbers k 0) (size_of d s)) sorts

@@ -1,7 +1,7 @@
 -- Trees that close.
 use Rattle.std.proofs.Common.{◌≡◌, ℕ, true, List, [], ◌∷◌, ◌++◌, refl, get_or, arith, subst}
-use Rattle.std.specs.Prelude.{Some, slice_get}
-use Rattle.std.specs.List.{AllZip, list_all}
+use Rattle.std.specs.Prelude.{Some, slice_get, Contains}
+use Rattle.std.specs.List.{AllZip}
 use Rattle.std.proofs.lemmas.Option.{slice_get-get_or}
 use Rattle.ras_logic.specs.declared.ids.RelId.{RelId}
 use Rattle.ras_logic.specs.declared.term.Term.{Term}
@@ -10,16 +10,15 @@ use Rattle.ras_logic.specs.declared.problem.Problem.{Problem}
 use Rattle.ras_logic.specs.declared.tree.Node.{Node}
 use Rattle.ras_logic.specs.declared.tree.Node.TheVariants.{Split}
 use Rattle.ras_logic.specs.Schemas.{SchemaParts}
-use Rattle.ras_logic.specs.Formulas.{Fits, IsCube}
-use Rattle.ras_logic.specs.Clashes.{FactsClash, Together, itself, back, through, image_of_undef, an_undef}
+use Rattle.ras_logic.specs.Clashes.{sides, FactsClash, Together, itself, back, through, image_of_undef, an_undef}
 use Rattle.ras_logic.specs.Refutations.{AreRowsOf, CloseAll, children_facts}
 use Rattle.ras_system.specs.Evidence.{IsGoodSafe}
 use Rattle.ras_vectors.specs.Words.{sort, function, constant, total, relation, same, apart}
 use Rattle.ras_logic.specs.Terms.{constant_term}
 use Rattle.ras_vectors.specs.Hiring as hiring
 use Rattle.ras_vectors.specs.Small as small
-use Rattle.ras_vectors.proofs.ListTests.{list_all-All, are_apart, are_apart-different}
-use Rattle.ras_vectors.proofs.DataTests.{fits, fits-passed, is_cube, is_cube-passed}
+use Rattle.ras_vectors.proofs.ListTests.{are_apart, are_apart-different}
+use Rattle.ras_vectors.proofs.DataTests.{are_fits-passed, are_cubes-passed}
 use Rattle.ras_vectors.proofs.Facts.{side, said, denied, said_and_denied, constants_together}
 
 -- chosen rows, whose relations are as they should
@@ -49,8 +48,8 @@ children_of schema formulas rows facts pending n children chosen nodes f known h
 
 pub good_still : IsGoodSafe small.still (small.is_set ∷ []) small.still_trees
 good_still = record {
-  fit = list_all-All (fits small.still.shape) (Fits small.still.shape) (fits-passed small.still.shape) (small.is_set ∷ []) refl;
-  cubes = list_all-All is_cube IsCube is_cube-passed (small.is_set ∷ []) refl;
+  fit = are_fits-passed small.still.shape (small.is_set ∷ []) refl;
+  cubes = are_cubes-passed (small.is_set ∷ []) refl;
   closed = (
     (said_and_denied small.still.shape.schema _ 1 0 small.x small.unset refl refl, tt),
     ((small.is_set, refl, no_rows [], refl, (said_and_denied small.still.shape.schema _ 0 1 small.x small.unset refl refl, tt)), tt),
@@ -71,8 +70,8 @@ two_values facts m n j k differ one other =
 
 pub good_two : IsGoodSafe small.two (small.is_c ∷ small.is_b ∷ []) small.two_trees
 good_two = record {
-  fit = list_all-All (fits small.two.shape) (Fits small.two.shape) (fits-passed small.two.shape) (small.is_c ∷ small.is_b ∷ []) refl;
-  cubes = list_all-All is_cube IsCube is_cube-passed (small.is_c ∷ small.is_b ∷ []) refl;
+  fit = are_fits-passed small.two.shape (small.is_c ∷ small.is_b ∷ []) refl;
+  cubes = are_cubes-passed (small.is_c ∷ small.is_b ∷ []) refl;
   closed = (
     (two_values _ 2 0 0 1 (λ e. cc) refl refl, tt),
     (
@@ -92,8 +91,8 @@ abbrev owner_of : Term → Term
 owner_of = hiring.owner_of
 
 -- who owns no job is nobody
-owner_of_none : (facts : List Literal) (k : ℕ) (t : Term) → slice_get (Rattle.ras_logic.specs.Clashes.sides facts) k ≡ Some (owner_of t)
-    → Together hiring.schema facts (Rattle.std.specs.Prelude.Contains facts) t hiring.no_job → Together hiring.schema facts (Rattle.std.specs.Prelude.Contains facts) (owner_of t) hiring.no_user
+owner_of_none : (facts : List Literal) (k : ℕ) (t : Term) → slice_get (sides facts) k ≡ Some (owner_of t)
+    → Together hiring.schema facts (Contains facts) t hiring.no_job → Together hiring.schema facts (Contains facts) (owner_of t) hiring.no_user
 owner_of_none facts k t at r = image_of_undef t (function 0) (total 1 0) refl r (side hiring.schema facts k (owner_of t) at)
 
 nobody_at_the_start : FactsClash hiring.schema (apart (hiring.who 0) (owner_of (hiring.job 0)) ∷ same (hiring.job 0) hiring.no_job ∷ same (hiring.who 0) hiring.no_user ∷ [])
@@ -116,8 +115,8 @@ nobody_after_withdrawing =
 
 pub good_hiring : IsGoodSafe hiring.hiring (hiring.wrong_owner ∷ []) hiring.trees
 good_hiring = record {
-  fit = list_all-All (fits hiring.shape) (Fits hiring.shape) (fits-passed hiring.shape) (hiring.wrong_owner ∷ []) refl;
-  cubes = list_all-All is_cube IsCube is_cube-passed (hiring.wrong_owner ∷ []) refl;
+  fit = are_fits-passed hiring.shape (hiring.wrong_owner ∷ []) refl;
+  cubes = are_cubes-passed (hiring.wrong_owner ∷ []) refl;
   closed = (
     (nobody_at_the_start, tt),
     (

@@ -1,7 +1,6 @@
 pub mod ListTests
 pub mod DataTests
 pub mod StateTests
-pub mod SystemTests
 pub mod Cycles
 pub mod Facts
 pub mod Refused

@@ -2,7 +2,7 @@
 use Rattle.std.proofs.Common.{refl, [], ◌∷◌, arith}
 use Rattle.ras_system.specs.Steps.{Step}
 use Rattle.ras_system.specs.Runs.{Run, IsViolation}
-use Rattle.ras_vectors.specs.Words.{choice, state}
+use Rattle.ras_vectors.specs.Words.{choice, state, cube, same}
 use Rattle.ras_vectors.specs.Hiring.{careless, apply_for_any, one_job, one_row, wrong_owner}
 use Rattle.ras_vectors.specs.Desk.{desk, take_seat, clear, two_elements, three_seats, off_and_on}
 use Rattle.ras_vectors.specs.Small.{unset_is_unsafe, one_element, x, unset}
@@ -42,5 +42,5 @@ unset_violation = record {
   database = is_database-passed unset_is_unsafe.shape.schema one_element refl;
   initial = is_initial-passed unset_is_unsafe one_element (state (0 ∷ []) []) refl;
   run = refl;
-  goal = (0, _, omega arith, refl, meets-passed one_element (state (0 ∷ []) []) (Rattle.ras_vectors.specs.Words.cube [] (Rattle.ras_vectors.specs.Words.same x unset ∷ [])) [] [] refl);
+  goal = (0, _, omega arith, refl, meets-passed one_element (state (0 ∷ []) []) (cube [] (same x unset ∷ [])) [] [] refl);
 }

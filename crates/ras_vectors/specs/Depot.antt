@@ -13,6 +13,9 @@ use Rattle.ras_logic.specs.Shapes.{ShapeParts}
 use Rattle.ras_logic.specs.Terms.{constant_term, undef_term, image_term}
 use Rattle.ras_system.specs.declared.transition.Transition.{Transition}
 use Rattle.ras_system.specs.declared.state.State.{State}
+use Rattle.ras_system.specs.declared.system_fault.SystemPlace.{SystemPlace}
+use Rattle.ras_system.specs.declared.system_fault.SystemKind.{SystemKind}
+use Rattle.ras_system.specs.declared.system_fault.SystemFault.{SystemFault}
 use Rattle.ras_system.specs.Systems.{SystemParts}
 use Rattle.ras_system.specs.Obligations.{Obligation}
 use Rattle.ras_vectors.specs.Words.{sort, function, constant, relation, total, nullable, var, cell, param, same, apart, cube, problem, set_var, set_cell, case, set_column, database, state}
@@ -238,15 +241,24 @@ some_values = record { vars = 4 ∷ 1 ∷ []; rows = (2 ∷ 4 ∷ []) ∷ (3 ∷
 abbrev pub with_start : List (Option ConstId) → SystemParts
 with_start initial = record depot { initial = initial }
 
+abbrev pub with_steps : List Transition → SystemParts
+with_steps steps = record depot { transitions = steps }
+
 abbrev pub with_step : Transition → SystemParts
-with_step t = record depot { transitions = move ∷ t ∷ [] }
+with_step t = with_steps (move ∷ t ∷ [])
+
+abbrev pub with_goals : List Problem → SystemParts
+with_goals goals = record depot { goals = goals }
 
 abbrev pub with_goal : Problem → SystemParts
-with_goal goal = record depot { goals = split_up ∷ goal ∷ [] }
+with_goal goal = with_goals (split_up ∷ goal ∷ [])
 
 -- a step of one task and one data parameter that changes nothing
-abbrev pub step_of : Transition
-step_of = record { rows = tasks ∷ []; params = sort 0 ∷ []; guard = [] ∷ []; updates = []; bulk = [] }
+abbrev pub idle : Transition
+idle = record { rows = tasks ∷ []; params = sort 0 ∷ []; guard = [] ∷ []; updates = []; bulk = [] }
+
+abbrev pub fault_at : SystemPlace → SystemKind → Option SystemFault
+fault_at place kind = Some (record { place = place; kind = kind })
 
 -- a formula of both relations, and what has to be refuted of it at the start
 abbrev pub cart_and_task : Problem

@@ -9,6 +9,7 @@ ghost use Rattle.ras_vectors.specs.Small.{two, three_elements};
 pub fn good_databases()
     ensures one_job { IsDatabase hiring_schema one_job }
     ensures stock { IsDatabase schema stock }
+    ensures more_users_than_jobs { IsDatabase hiring_schema (database (5 ∷ 1 ∷ []) ((4 ∷ []) ∷ []) []) }
     ensures no_element { IsDatabase hiring_schema (database (0 ∷ 0 ∷ []) ([] ∷ []) []) }
     ensures greatest_constant { IsDatabase two.shape.schema three_elements }
 {}
@@ -20,7 +21,7 @@ pub fn no_databases()
     ensures table_missing { ¬ IsDatabase hiring_schema (database (2 ∷ 0 ∷ []) [] []) }
     ensures short_table { ¬ IsDatabase hiring_schema (database (2 ∷ 2 ∷ []) ((1 ∷ []) ∷ []) []) }
     ensures long_table { ¬ IsDatabase hiring_schema (database (2 ∷ 1 ∷ []) ((1 ∷ 1 ∷ []) ∷ []) []) }
-    ensures image_beyond { ¬ IsDatabase hiring_schema (database (2 ∷ 2 ∷ []) ((1 ∷ 3 ∷ []) ∷ []) []) }
+    ensures image_beyond { ¬ IsDatabase hiring_schema (database (2 ∷ 3 ∷ []) ((1 ∷ 3 ∷ 2 ∷ []) ∷ []) []) }
     ensures undef_image { ¬ IsDatabase hiring_schema (database (2 ∷ 2 ∷ []) ((1 ∷ 0 ∷ []) ∷ []) []) }
     ensures constant_missing { ¬ IsDatabase two.shape.schema (database (3 ∷ []) [] (1 ∷ 2 ∷ [])) }
     ensures constant_more { ¬ IsDatabase hiring_schema (database (2 ∷ 1 ∷ []) ((1 ∷ []) ∷ []) (1 ∷ [])) }

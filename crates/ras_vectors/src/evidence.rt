@@ -1,5 +1,6 @@
 ghost use Rattle.std.specs.Prelude.{◌≡◌, [], ◌∷◌};
 ghost use Rattle.ras_logic.specs.declared.tree.Node.TheVariants.{Leaf, Split};
+ghost use Rattle.ras_logic.specs.Trees.{IsWhole};
 ghost use Rattle.ras_logic.specs.Refutations.{Closes};
 ghost use Rattle.ras_system.specs.Obligations.{obligations};
 ghost use Rattle.ras_system.specs.Evidence.{IsGoodSafe, ClosesObligation};
@@ -22,6 +23,16 @@ pub fn good_evidence()
     ensures hiring { IsGoodSafe hiring.hiring (hiring.wrong_owner ∷ []) hiring.trees }
     ensures still { IsGoodSafe still (is_set ∷ []) still_trees }
     ensures two { IsGoodSafe two (is_c ∷ is_b ∷ []) two_trees }
+{}
+
+/// Trees in preorder, and nodes that are too few or too many for one.
+pub fn whole_trees()
+    ensures leaf { IsWhole (tree (Leaf ∷ [])) }
+    ensures nested { IsWhole (tree (Split 0 [] 2 ∷ Split 1 [] 1 ∷ Leaf ∷ Leaf ∷ [])) }
+    ensures no_children { IsWhole (tree (Split 0 [] 0 ∷ [])) }
+    ensures no_node { ¬ IsWhole (tree []) }
+    ensures node_missing { ¬ IsWhole (tree (Split 0 [] 2 ∷ Leaf ∷ [])) }
+    ensures node_too_many { ¬ IsWhole (tree (Split 0 [] 1 ∷ Leaf ∷ Leaf ∷ [])) }
 {}
 
 /// A split under two rows of the premise, and splits one in the other, each child closed before the next.

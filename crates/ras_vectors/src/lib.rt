@@ -11,6 +11,7 @@ mod preimages;
 mod runs;
 mod schemas;
 mod states;
+mod system_faults;
 mod systems;
 mod terms;
 
@@ -21,7 +22,7 @@ pub use clashes::{
 pub use databases::{databases_that_do_not_extend, good_databases, larger_databases, no_databases};
 pub use evidence::{
     broken_trees, closed_trees, evidence_that_is_not_good, good_evidence, splits_under_other_rows,
-    what_has_to_be_refuted,
+    what_has_to_be_refuted, whole_trees,
 };
 pub use faults::{
     counts_of_a_schema_beyond_their_limits, faults_of_a_shape, functions_that_close_a_cycle,
@@ -42,6 +43,9 @@ pub use schemas::{
 pub use states::{
     good_and_bad_states, initial_states, states_that_do_not_meet_a_formula,
     states_that_meet_a_formula,
+};
+pub use system_faults::{
+    counts_of_a_system_beyond_their_limits, first_faults_of_systems, systems_without_a_fault,
 };
 pub use systems::{
     bulk_cases_that_are_none, goals_and_shapes_that_are_none, good_systems, starts_that_are_none,

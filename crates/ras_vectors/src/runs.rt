@@ -9,7 +9,7 @@ ghost use Rattle.ras_vectors.specs.Desk.{desk, take_seat, clear, two_elements, t
 ghost use Rattle.ras_vectors.specs.Small.{still, unset_is_unsafe, one_element, two, three_elements, is_set, is_b, is_c};
 ghost use Rattle.ras_vectors.specs.Depot.{depot, stock, move, shift, before_move, after_move};
 
-use ras_system::a_good_evidence_suffices;
+use ras_system::{a_good_evidence_suffices, no_fault_is_first_exactly_in_a_system};
 
 /// Two seats are taken, and then all are switched: the named one is kept, each other one by the first case that holds.
 pub fn the_states_of_a_run()
@@ -71,6 +71,7 @@ pub fn safe_systems()
     ensures still { IsSafe still }
     ensures two { IsSafe two }
 {
+    no_fault_is_first_exactly_in_a_system();
     a_good_evidence_suffices();
 }
 

@@ -1,6 +1,6 @@
 ghost use Rattle.std.specs.Prelude.{[], ◌∷◌};
 ghost use Rattle.ras_system.specs.States.{IsState, IsInitial, Meets};
-ghost use Rattle.ras_vectors.specs.Words.{state, cube, problem, same, apart, sort};
+ghost use Rattle.ras_vectors.specs.Words.{database, state, cube, problem, same, apart, sort};
 ghost use Rattle.ras_vectors.specs.Hiring.{one_job, one_row, wrong_owner, apps, job, no_job};
 ghost use Rattle.ras_vectors.specs.Desk.{desk, seats, seat, two_elements, three_seats, off_and_on};
 ghost use Rattle.ras_vectors.specs.Small.{still, one_element};
@@ -47,5 +47,5 @@ pub fn states_that_do_not_meet_a_formula()
     ensures no_row { ¬ Meets stock (state (1 ∷ 1 ∷ []) ([] ∷ ((3 ∷ []) ∷ []) ∷ [])) (cube (carts ∷ tasks ∷ []) []) }
     ensures right_owner { ¬ Meets one_job (one_row 1 1) wrong_owner }
     ensures literal { ¬ Meets one_job (one_row 1 2) (cube [] (same no_job no_job ∷ apart no_job no_job ∷ [])) }
-    ensures param_beyond { ¬ Meets (Rattle.ras_vectors.specs.Words.database (2 ∷ 0 ∷ []) ([] ∷ []) []) (one_row 0 0) (problem [] (sort 1 ∷ []) (apart picked no_job ∷ [])) }
+    ensures param_beyond { ¬ Meets (database (2 ∷ 0 ∷ []) ([] ∷ []) []) (one_row 0 0) (problem [] (sort 1 ∷ []) (apart picked no_job ∷ [])) }
 {}

@@ -1,8 +1,8 @@
 ghost use Rattle.std.specs.Prelude.{◌≡◌, [], ◌∷◌, true, false, Some, None};
-ghost use Rattle.ras_logic.specs.Terms.{sort_of, undef_term, constant_term};
+ghost use Rattle.ras_logic.specs.Terms.{sort_of, undef_term, constant_term, image_term};
 ghost use Rattle.ras_logic.specs.Formulas.{Fits, IsCube};
 ghost use Rattle.ras_logic.specs.Truth.{value, holds, Satisfies};
-ghost use Rattle.ras_vectors.specs.Words.{sort, constant, var, cell, param, same, apart, cube, problem, relation};
+ghost use Rattle.ras_vectors.specs.Words.{sort, constant, function, var, cell, param, same, apart, cube, problem, relation};
 ghost use Rattle.ras_vectors.specs.Depot.{shape, tasks, carts, stock, some_values, place, hall, parcel, shelf, stand, picked, shelf_of, hall_of, front, back, main_hall, no_shelf, no_hall, split_up};
 
 /// A sort for each kind of base, and along two functions.
@@ -24,7 +24,7 @@ pub fn terms_without_a_sort()
     ensures constant { sort_of shape [] [] (constant_term (constant 3)) ≡ None }
     ensures undef { sort_of shape [] [] (undef_term (sort 3)) ≡ None }
     ensures param { sort_of shape [] [] picked ≡ None }
-    ensures function { sort_of shape [] [] (Rattle.ras_logic.specs.Terms.image_term place (Rattle.ras_vectors.specs.Words.function 2)) ≡ None }
+    ensures function { sort_of shape [] [] (image_term place (function 2)) ≡ None }
     ensures other_sort { sort_of shape [] (sort 0 ∷ []) (shelf_of (hall_of picked)) ≡ None }
     ensures other_sort_of_the_base { sort_of shape [] [] (shelf_of place) ≡ None }
 {}

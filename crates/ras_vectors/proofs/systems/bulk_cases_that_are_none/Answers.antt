@@ -3,12 +3,12 @@ use Rattle.ras_logic.specs.declared.ids.RelId.{RelId}
 use Rattle.ras_system.specs.declared.transition.Transition.{Transition}
 use Rattle.ras_system.specs.Systems.{IsSystem, IsTransition}
 use Rattle.ras_vectors.specs.Words.{case, same, set_column}
-use Rattle.ras_vectors.specs.Depot.{shape, step_of, with_step, tasks, carts, place, front}
+use Rattle.ras_vectors.specs.Depot.{shape, idle, with_step, tasks, carts, place, front}
 use Rattle.ras_vectors.proofs.Refused.{no_sort, two_sorts}
 use Rattle.ras_vectors.proofs.systems.bulk_cases_that_are_none.Goals as goal
 
 the_step : (t : Transition) → IsSystem (with_step t) → IsTransition shape t
-the_step t h = h.transitions 1 step_of (omega arith)
+the_step t h = h.transitions 1 idle (omega arith)
 
 pub returns-clause-relation : goal.returns-clause-relation
 returns-clause-relation c = λ h. let e : 2 < 2 = ((the_step _ h).bulk 0 (case tasks [] []) (omega arith)).relation in omega arith

@@ -2,13 +2,13 @@ use Rattle.std.proofs.Common.{◌<◌, refl, arith, []}
 use Rattle.ras_system.specs.declared.transition.Transition.{Transition}
 use Rattle.ras_system.specs.Systems.{IsSystem, IsTransition}
 use Rattle.ras_vectors.specs.Words.{sort, relation, same, set_var}
-use Rattle.ras_vectors.specs.Depot.{shape, step_of, with_step, place, front}
+use Rattle.ras_vectors.specs.Depot.{shape, idle, with_step, place, front}
 use Rattle.ras_vectors.proofs.Refused.{no_sort, two_sorts}
 use Rattle.ras_vectors.proofs.systems.transitions_that_are_none.Goals as goal
 
 -- the changed step of the depot
 the_step : (t : Transition) → IsSystem (with_step t) → IsTransition shape t
-the_step t h = h.transitions 1 step_of (omega arith)
+the_step t h = h.transitions 1 idle (omega arith)
 
 pub returns-clause-row : goal.returns-clause-row
 returns-clause-row c = λ h. let e : 2 < 2 = (the_step _ h).rows 0 (relation 0) (omega arith) in omega arith
