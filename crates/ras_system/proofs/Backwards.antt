@@ -10,7 +10,7 @@ use Rattle.ras_system.specs.Systems.{IsSystem, IsTransition}
 use Rattle.ras_logic.proofs.Clashes.{from_known}
 use Rattle.ras_system.proofs.Kept.{state_after-state}
 use Rattle.ras_system.specs.Steps.{Step}
-use Rattle.ras_system.specs.Runs.{Run, IsViolation, IsSafe}
+use Rattle.ras_system.specs.Runs.{Run, IsSafe}
 use Rattle.ras_system.specs.Invariants.{IsInvariant}
 
 module _ (system : SystemParts) (good : IsSystem system) (d : RawDb) (db : IsDatabase system.shape.schema d) where

@@ -1,9 +1,9 @@
 -- A step leads from a state to a state.
-use Rattle.std.proofs.Common.{◌≡◌, ℕ, zero, suc, ◌+◌, ◌<◌, ◌≤◌, Bool, true, false, ◌&&◌, List, [], ◌∷◌, ◌++◌, map, length, get_or, nat_eq, refl, sym, ◌∙◌, ap, subst, arith, ⊎_elim, zero-add, length-append}
-use Rattle.std.specs.Prelude.{slice_get, Option, Some, None, option_and_then, option_map, All, Contains, find}
+use Rattle.std.proofs.Common.{◌≡◌, ℕ, zero, suc, ◌+◌, ◌<◌, Bool, true, false, ◌&&◌, List, [], ◌∷◌, ◌++◌, map, length, get_or, nat_eq, refl, sym, ◌∙◌, ap, subst, arith, zero-add, length-append}
+use Rattle.std.specs.Prelude.{slice_get, Option, Some, None, option_map, All, Contains, find}
 use Rattle.std.specs.List.{enumerate_from, list_all}
 use Rattle.std.specs.Option.{option_map_or}
-use Rattle.std.proofs.lemmas.Option.{slice_get_within, get_or_from_slice_get, slice_get-get_or, slice_get_read}
+use Rattle.std.proofs.lemmas.Option.{slice_get_within, get_or_from_slice_get, slice_get-get_or}
 use Rattle.std.proofs.lemmas.List.{get_or-map, length-map}
 use Rattle.std.proofs.lemmas.List.FromFn.{get_or-enumerate_from, length-enumerate_from}
 use Rattle.std.proofs.lemmas.List.Elements.{All-contains, All-map, All-get_or}
@@ -17,12 +17,11 @@ use Rattle.ras_logic.specs.declared.term.Base.TheVariants as base
 use Rattle.ras_logic.specs.declared.literal.Literal.TheVariants.{Equal}
 use Rattle.ras_logic.specs.declared.term.Term.{Term}
 use Rattle.ras_logic.specs.Shapes.{ShapeParts}
-use Rattle.ras_logic.specs.Schemas.{IsSchema}
 use Rattle.ras_logic.specs.Databases.{IsDatabase, IsElement}
 use Rattle.ras_logic.specs.Terms.{sort_of, sort_of_base, sort_along}
 use Rattle.ras_logic.specs.Formulas.{LiteralFits}
 use Rattle.ras_logic.specs.Truth.{AreElements, AreValues, IsRow, value, holds}
-use Rattle.ras_logic.proofs.TermSorts.{Through, and_then_through, value-element}
+use Rattle.ras_logic.proofs.TermSorts.{and_then_through, value-element}
 use Rattle.ras_system.specs.declared.state.State.{State}
 use Rattle.ras_system.specs.declared.choice.Choice.{Choice}
 use Rattle.ras_system.specs.declared.update.Target.{Target}

@@ -1,13 +1,13 @@
 -- The formulas of a good evidence are an invariant, for a system without relations.
-use Rattle.std.proofs.Common.{◌≡◌, ℕ, zero, suc, ◌+◌, ◌<◌, ◌≤◌, Bool, true, false, List, [], ◌∷◌, ◌++◌, map, length, get_or, nat_eq, refl, sym, ◌∙◌, ap, subst, arith, ◌⊎◌, inl, inr, ⊎_elim, cond, zero-add}
-use Rattle.std.specs.Prelude.{slice_get, Option, Some, None, option_and_then, option_map, unwrap_or, All, Any, Contains, IsTrue, not, ⊤, find, flat_map}
+use Rattle.std.proofs.Common.{◌≡◌, ℕ, zero, suc, ◌<◌, Bool, true, false, List, [], ◌∷◌, ◌++◌, map, length, get_or, refl, sym, ◌∙◌, ap, subst, arith, cond, zero-add}
+use Rattle.std.specs.Prelude.{slice_get, Option, Some, None, option_map, unwrap_or, All, Contains, IsTrue, find, flat_map}
 use Rattle.std.specs.List.{AllByRecursion, AllZip, enumerate_from}
 use Rattle.std.specs.Option.{option_map_or}
 use Rattle.std.proofs.lemmas.Option.{slice_get_within, slice_get_read, get_or_from_slice_get, slice_get-get_or}
-use Rattle.std.proofs.lemmas.List.{get_or-map, get_or_past}
+use Rattle.std.proofs.lemmas.List.{get_or-map}
 use Rattle.std.proofs.lemmas.List.FromFn.{get_or-enumerate_from, length-enumerate_from}
-use Rattle.std.proofs.lemmas.List.Elements.{All-contains, All-head, All-tail, All-nil, All-cons, All-append, All-map, All-from_recursion}
-use Rattle.std.proofs.lemmas.Bool.{eqb-true, eq-eqb, not-true}
+use Rattle.std.proofs.lemmas.List.Elements.{All-contains, All-head, All-tail, All-nil, All-cons, All-append, All-map}
+use Rattle.std.proofs.lemmas.Bool.{eqb-true, eq-eqb}
 use Rattle.ras_logic.specs.declared.ids.SortId.{SortId}
 use Rattle.ras_logic.specs.declared.ids.ConstId.{ConstId}
 use Rattle.ras_logic.specs.declared.ids.VarId.{VarId}
@@ -20,14 +20,14 @@ use Rattle.ras_logic.specs.declared.term.Term.{Term}
 use Rattle.ras_logic.specs.declared.literal.Literal.{Literal}
 use Rattle.ras_logic.specs.declared.literal.Literal.TheVariants.{Equal}
 use Rattle.ras_logic.specs.declared.problem.Problem.{Problem}
-use Rattle.ras_logic.specs.Shapes.{ShapeParts, IsShape}
+use Rattle.ras_logic.specs.Shapes.{ShapeParts}
 use Rattle.ras_logic.specs.Schemas.{IsSchema, IsSort}
-use Rattle.ras_logic.specs.Databases.{IsDatabase, constant_of}
+use Rattle.ras_logic.specs.Databases.{IsDatabase}
 use Rattle.ras_logic.specs.Terms.{base_term, constant_term, undef_term, sort_of_base, sort_along, sort_of, replace_term}
-use Rattle.ras_logic.specs.Formulas.{LiteralFits, Fits, IsCube, negated, replace}
+use Rattle.ras_logic.specs.Formulas.{LiteralFits, Fits, IsCube, replace}
 use Rattle.ras_logic.specs.Truth.{AreElements, AreValues, AllHold, holds, value, value_of_base, image_along}
-use Rattle.ras_logic.specs.Refutations.{AreRowsOf, chosen_row, Closes, HoldsOfSome}
-use Rattle.ras_logic.proofs.TermSorts.{Through, and_then_through, and_then_from, sort_of-undef, sort_of-constant}
+use Rattle.ras_logic.specs.Refutations.{chosen_row, Closes, HoldsOfSome}
+use Rattle.ras_logic.proofs.TermSorts.{and_then_through, and_then_from, sort_of-undef, sort_of-constant}
 use Rattle.ras_system.specs.declared.state.State.{State}
 use Rattle.ras_system.specs.declared.choice.Choice.{Choice}
 use Rattle.ras_system.specs.declared.update.Target.{Target}
@@ -35,14 +35,13 @@ use Rattle.ras_system.specs.declared.update.Target.TheVariants as target
 use Rattle.ras_system.specs.declared.update.Update.{Update}
 use Rattle.ras_system.specs.declared.bulk.Bulk.{Bulk}
 use Rattle.ras_system.specs.declared.transition.Transition.{Transition}
-use Rattle.ras_logic.specs.declared.tree.Node.{Node}
 use Rattle.ras_logic.specs.declared.tree.Tree.{Tree}
-use Rattle.ras_system.specs.States.{IsState, IsInitial, AreRows, Meets, MeetsAny, initial_value, values_at}
-use Rattle.ras_system.specs.Steps.{Step, StepBy, term_for_var, is_var, written, state_after}
-use Rattle.ras_system.specs.Systems.{SystemParts, IsSystem, IsTransition, UpdateFits, BulkFits, target_term}
+use Rattle.ras_system.specs.States.{IsState, IsInitial, Meets, MeetsAny, initial_value, values_at}
+use Rattle.ras_system.specs.Steps.{Step, StepBy, term_for_var, is_var, written}
+use Rattle.ras_system.specs.Systems.{SystemParts, IsSystem, IsTransition, UpdateFits, target_term}
 use Rattle.ras_system.specs.Invariants.{IsInvariant}
 use Rattle.ras_system.specs.Preimages.{base_before, preimage_problem, preimage}
-use Rattle.ras_system.specs.Obligations.{initial_vars, at_start, Obligation, with_formulas, preimages, obligations}
+use Rattle.ras_system.specs.Obligations.{initial_vars, at_start, Obligation, with_formulas, obligations}
 use Rattle.ras_system.specs.Evidence.{IsGoodSafe}
 use Rattle.ras_logic.proofs.Clashes.{from_known}
 use Rattle.ras_logic.proofs.Closing.{closed-holds, replaced-sort, replaced-value}

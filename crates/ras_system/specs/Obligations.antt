@@ -1,5 +1,5 @@
 -- What a certificate of safety has to refute, in order.
-use Rattle.std.specs.Prelude.{ℕ, List, [], ◌∷◌, ◌++◌, map, get_or, true, Option, flat_map}
+use Rattle.std.specs.Prelude.{ℕ, List, [], ◌++◌, map, get_or, true, Option, flat_map}
 use Rattle.std.specs.List.{enumerate_from}
 use Rattle.std.specs.Option.{option_map_or}
 use Rattle.ras_logic.specs.declared.ids.SortId.{SortId}
