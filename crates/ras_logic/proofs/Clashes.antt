@@ -20,7 +20,7 @@ use Rattle.ras_logic.specs.Terms.{undef_term, image_term, sort_of_base, sort_aft
 use Rattle.ras_logic.specs.Formulas.{LiteralFits}
 use Rattle.ras_logic.specs.Truth.{AreValues, AllHold, holds, value_of_base, value}
 use Rattle.ras_logic.proofs.TermSorts.{and_then_through, and_then_from, sort_after-step, sort_after-known, sort_along-append, image_along-append, image-total, value-element, sort_of-undef, undef-sort, sort_of-constant, constant-sort}
-use Rattle.ras_logic.specs.Clashes.{sides, IsPrefixOf, IsTerm, Together, FactsClash, of_literals, a_constant, an_undef, itself, back, through, stated, same_images, image_of_undef, only_undef, stated_apart, two_constants, constant_undef}
+use Rattle.ras_logic.specs.Clashes.{sides, IsPrefixOf, IsTerm, Together, FactsClash, of_literals, a_constant, an_undef, reflexive, symmetric, transitive, stated, same_images, image_of_undef, only_undef, stated_apart, two_constants, constant_undef}
 
 -- what holds of each element holds of one that is read
 pub from_known : {A : Type 0} (P : A → Type 0) (xs : List A) → All P xs → (k : ℕ) (x : A) → slice_get xs k ≡ Some x → P x
@@ -88,14 +88,14 @@ module _ (shape : ShapeParts) (d : RawDb) (db : IsDatabase shape.schema d)
       record { sort = u; is_sort = sort_of-constant shape rows params c u (slice_get-get_or shape.schema.constants c.n (record { n = 0 }) lt) }
   term-sorted (an_undef s lt) = record { sort = s; is_sort = sort_of-undef shape rows params s lt }
 
-  agree_itself : (t : Term) → HasSort shape rows params t → Agree t t
-  agree_itself t h = record { sort = h.sort; left = h.is_sort; right = h.is_sort; same = refl }
+  agree_reflexive : (t : Term) → HasSort shape rows params t → Agree t t
+  agree_reflexive t h = record { sort = h.sort; left = h.is_sort; right = h.is_sort; same = refl }
 
-  agree_back : (s t : Term) → Agree s t → Agree t s
-  agree_back s t a = record { sort = a.sort; left = a.right; right = a.left; same = sym a.same }
+  agree_symmetric : (s t : Term) → Agree s t → Agree t s
+  agree_symmetric s t a = record { sort = a.sort; left = a.right; right = a.left; same = sym a.same }
 
-  agree_through : (r s t : Term) → Agree r s → Agree s t → Agree r t
-  agree_through r s t a b =
+  agree_transitive : (r s t : Term) → Agree r s → Agree s t → Agree r t
+  agree_transitive r s t a b =
       let one : a.sort ≡ b.sort = cc in
       record { sort = a.sort; left = a.left; right = rw one b.right; same = a.same ∙ b.same }
 
@@ -139,9 +139,9 @@ module _ (shape : ShapeParts) (d : RawDb) (db : IsDatabase shape.schema d)
       }
 
   together-agree : {s t : Term} → Together shape.schema facts (Contains facts) s t → Agree s t
-  together-agree (itself t known) = agree_itself t (term-sorted known)
-  together-agree (back s t r) = agree_back s t (together-agree r)
-  together-agree (through r s t p q) = agree_through r s t (together-agree p) (together-agree q)
+  together-agree (reflexive t known) = agree_reflexive t (term-sorted known)
+  together-agree (symmetric s t r) = agree_symmetric s t (together-agree r)
+  together-agree (transitive r s t p q) = agree_transitive r s t (together-agree p) (together-agree q)
   together-agree (stated s t inside) = agree_stated s t inside
   together-agree (same_images s t f r one other) = agree_images s t f (together-agree r) (term-sorted one)
   together-agree (image_of_undef t f decl known r one) = agree_image_of_undef t f decl known (together-agree r)

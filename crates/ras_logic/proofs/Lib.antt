@@ -3,5 +3,6 @@ pub mod Chains
 pub mod Clashes
 pub mod Closing
 pub mod Columns
+pub mod Preorder
 pub mod Rounds
 pub mod TermSorts

@@ -30,9 +30,9 @@ pub data IsTerm (schema : SchemaParts) (literals : List Literal) : Term → Type
 -- The least relation on these terms that is an equivalence, has both sides of every fact that says same, and is closed
 -- under the three rules for functions.
 pub data Together (schema : SchemaParts) (literals : List Literal) (IsFact : Literal → Type 0) : Term → Term → Type 0 where
-  itself : (t : Term) → IsTerm schema literals t → Together schema literals IsFact t t
-  back : (s t : Term) → Together schema literals IsFact s t → Together schema literals IsFact t s
-  through : (r s t : Term) → Together schema literals IsFact r s → Together schema literals IsFact s t → Together schema literals IsFact r t
+  reflexive : (t : Term) → IsTerm schema literals t → Together schema literals IsFact t t
+  symmetric : (s t : Term) → Together schema literals IsFact s t → Together schema literals IsFact t s
+  transitive : (r s t : Term) → Together schema literals IsFact r s → Together schema literals IsFact s t → Together schema literals IsFact r t
   stated : (s t : Term) → IsFact (Equal s t true) → Together schema literals IsFact s t
   same_images : (s t : Term) (f : FunId) → Together schema literals IsFact s t → IsTerm schema literals (image_term s f)
       → IsTerm schema literals (image_term t f) → Together schema literals IsFact (image_term s f) (image_term t f)

@@ -37,7 +37,7 @@ use Rattle.ras_system.specs.declared.bulk.Bulk.{Bulk}
 use Rattle.ras_system.specs.declared.transition.Transition.{Transition}
 use Rattle.ras_logic.specs.declared.tree.Tree.{Tree}
 use Rattle.ras_system.specs.States.{IsState, IsInitial, Meets, MeetsAny, initial_value, values_at}
-use Rattle.ras_system.specs.Steps.{Step, StepBy, term_for_var, is_var, written}
+use Rattle.ras_system.specs.Steps.{IsStep, StepBy, term_for_var, is_var, written}
 use Rattle.ras_system.specs.Systems.{SystemParts, IsSystem, IsTransition, UpdateFits, target_term}
 use Rattle.ras_system.specs.Invariants.{IsInvariant}
 use Rattle.ras_system.specs.Preimages.{base_before, preimage_problem, preimage}
@@ -393,7 +393,7 @@ module _ (system : SystemParts) (good : IsSystem system) (no_relations : system.
       (subst (λ (u : Transition). AllByRecursion (Closed formulas) (preimage u f)) same closed)))
 
   steps-kept : AllByRecursion (λ (f : Problem). AllByRecursion (λ (t : Transition). AllByRecursion (Closed formulas) (preimage t f)) system.transitions) formulas
-      → (d : RawDb) (s : State) (c : Choice) (next : State) → IsDatabase system.shape.schema d → IsState system.shape d s → Step system d s c next
+      → (d : RawDb) (s : State) (c : Choice) (next : State) → IsDatabase system.shape.schema d → IsState system.shape d s → IsStep system d s c next
       → MeetsAny d next formulas → MeetsAny d s formulas
   steps-kept closed d s c next db st step m =
       let f : Problem = m.1 in

@@ -7,7 +7,7 @@ use Rattle.ras_system.specs.declared.state.State.{State}
 use Rattle.ras_system.specs.declared.choice.Choice.{Choice}
 use Rattle.ras_system.specs.Systems.{SystemParts}
 use Rattle.ras_system.specs.States.{IsState, IsInitial, MeetsAny}
-use Rattle.ras_system.specs.Steps.{Step}
+use Rattle.ras_system.specs.Steps.{IsStep}
 
 -- no initial state meets a formula; each state of a goal does; and so does each state with a step to a state that does
 pub record IsInvariant (system : SystemParts) (formulas : List Problem) : Type 0 where
@@ -15,4 +15,4 @@ pub record IsInvariant (system : SystemParts) (formulas : List Problem) : Type 0
   pub goals : (d : RawDb) (s : State) → IsDatabase system.shape.schema d → IsState system.shape d s
       → MeetsAny d s system.goals → MeetsAny d s formulas
   pub steps : (d : RawDb) (s : State) (c : Choice) (next : State) → IsDatabase system.shape.schema d → IsState system.shape d s
-      → Step system d s c next → MeetsAny d next formulas → MeetsAny d s formulas
+      → IsStep system d s c next → MeetsAny d next formulas → MeetsAny d s formulas

@@ -80,5 +80,5 @@ pub record StepBy (d : RawDb) (t : Transition) (old : State) (c : Choice) (new :
   pub after : new ≡ state_after d t old c
 
 -- a step of the transition that the choice names
-abbrev pub Step : SystemParts → RawDb → State → Choice → State → Type 0
-Step system d old c new = (t : Transition) × (slice_get system.transitions c.transition ≡ Some t) × StepBy d t old c new
+abbrev pub IsStep : SystemParts → RawDb → State → Choice → State → Type 0
+IsStep system d old c new = (t : Transition) × (slice_get system.transitions c.transition ≡ Some t) × StepBy d t old c new

@@ -10,7 +10,7 @@ use Rattle.ras_logic.specs.declared.problem.Problem.{Problem}
 use Rattle.ras_logic.specs.declared.tree.Node.{Node}
 use Rattle.ras_logic.specs.declared.tree.Node.TheVariants.{Split}
 use Rattle.ras_logic.specs.Schemas.{SchemaParts}
-use Rattle.ras_logic.specs.Clashes.{sides, FactsClash, Together, itself, back, through, image_of_undef, an_undef}
+use Rattle.ras_logic.specs.Clashes.{sides, FactsClash, Together, reflexive, symmetric, transitive, image_of_undef, an_undef}
 use Rattle.ras_logic.specs.Refutations.{AreRowsOf, CloseAll, children_facts}
 use Rattle.ras_system.specs.Evidence.{IsGoodSafe}
 use Rattle.ras_vectors.specs.Words.{sort, function, constant, total, relation, same, apart}
@@ -66,7 +66,7 @@ x = small.x
 two_values : (facts : List Literal) (m n j k : ℕ) → (m ≡ n → ⊥) → slice_get facts j ≡ Some (same x (constant_term (constant m))) → slice_get facts k ≡ Some (same x (constant_term (constant n))) → FactsClash S facts
 two_values facts m n j k differ one other =
     constants_together S facts m n differ
-    (through (constant_term (constant m)) x (constant_term (constant n)) (back x (constant_term (constant m)) (said S facts j x (constant_term (constant m)) one)) (said S facts k x (constant_term (constant n)) other))
+    (transitive (constant_term (constant m)) x (constant_term (constant n)) (symmetric x (constant_term (constant m)) (said S facts j x (constant_term (constant m)) one)) (said S facts k x (constant_term (constant n)) other))
 
 pub good_two : IsGoodSafe small.two (small.is_c ∷ small.is_b ∷ []) small.two_trees
 good_two = record {
@@ -99,19 +99,19 @@ nobody_at_the_start : FactsClash hiring.schema (apart (hiring.who 0) (owner_of (
 nobody_at_the_start =
     let facts : List Literal = apart (hiring.who 0) (owner_of (hiring.job 0)) ∷ same (hiring.job 0) hiring.no_job ∷ same (hiring.who 0) hiring.no_user ∷ [] in
     denied hiring.schema facts 0 (hiring.who 0) (owner_of (hiring.job 0)) refl
-    (through (hiring.who 0) hiring.no_user (owner_of (hiring.job 0)) (said hiring.schema facts 2 (hiring.who 0) hiring.no_user refl)
-    (back (owner_of (hiring.job 0)) hiring.no_user (owner_of_none facts 1 (hiring.job 0) refl (said hiring.schema facts 1 (hiring.job 0) hiring.no_job refl))))
+    (transitive (hiring.who 0) hiring.no_user (owner_of (hiring.job 0)) (said hiring.schema facts 2 (hiring.who 0) hiring.no_user refl)
+    (symmetric (owner_of (hiring.job 0)) hiring.no_user (owner_of_none facts 1 (hiring.job 0) refl (said hiring.schema facts 1 (hiring.job 0) hiring.no_job refl))))
 
 the_owner_applies : FactsClash hiring.schema (same (hiring.job 0) hiring.no_job ∷ apart hiring.wanted hiring.no_job ∷ apart (owner_of hiring.wanted) (owner_of hiring.wanted) ∷ [])
 the_owner_applies =
     let facts : List Literal = same (hiring.job 0) hiring.no_job ∷ apart hiring.wanted hiring.no_job ∷ apart (owner_of hiring.wanted) (owner_of hiring.wanted) ∷ [] in
-    denied hiring.schema facts 2 (owner_of hiring.wanted) (owner_of hiring.wanted) refl (itself (owner_of hiring.wanted) (side hiring.schema facts 4 (owner_of hiring.wanted) refl))
+    denied hiring.schema facts 2 (owner_of hiring.wanted) (owner_of hiring.wanted) refl (reflexive (owner_of hiring.wanted) (side hiring.schema facts 4 (owner_of hiring.wanted) refl))
 
 nobody_after_withdrawing : FactsClash hiring.schema (apart (hiring.job 0) hiring.no_job ∷ apart hiring.no_user (owner_of hiring.no_job) ∷ [])
 nobody_after_withdrawing =
     let facts : List Literal = apart (hiring.job 0) hiring.no_job ∷ apart hiring.no_user (owner_of hiring.no_job) ∷ [] in
     denied hiring.schema facts 1 hiring.no_user (owner_of hiring.no_job) refl
-    (back (owner_of hiring.no_job) hiring.no_user (owner_of_none facts 3 hiring.no_job refl (itself hiring.no_job (an_undef (sort 1) (omega arith)))))
+    (symmetric (owner_of hiring.no_job) hiring.no_user (owner_of_none facts 3 hiring.no_job refl (reflexive hiring.no_job (an_undef (sort 1) (omega arith)))))
 
 pub good_hiring : IsGoodSafe hiring.hiring (hiring.wrong_owner ∷ []) hiring.trees
 good_hiring = record {

@@ -20,7 +20,7 @@ use Rattle.ras_system.specs.declared.state.State.{State}
 use Rattle.ras_system.specs.declared.choice.Choice.{Choice}
 use Rattle.ras_system.specs.Systems.{SystemParts}
 use Rattle.ras_system.specs.States.{rows_of, IsState, IsInitial, initial_value, AreRows, values_at, Meets}
-use Rattle.ras_system.specs.Steps.{state_after, StepBy, Step}
+use Rattle.ras_system.specs.Steps.{state_after, StepBy, IsStep}
 use Rattle.ras_vectors.proofs.ListTests.{each, each-at, each-from, list_all-All, are_apart, are_apart-different, are_apart-from}
 use Rattle.ras_vectors.proofs.DataTests.{are_elements, are_elements-passed, all_hold}
 
@@ -122,7 +122,7 @@ may_step-from d t s next c h =
     (list_any-from_Any test t.guard (g.0, g.1, g.2, g.3, list_all-from_AllPass (holds d (values_at s t.rows c.rows c.values)) g.1 g.4)))
 
 by_named : (system : SystemParts) (d : RawDb) (s : State) (c : Choice) (next : State) (t : Transition) → slice_get system.transitions c.transition ≡ Some t
-    → Step system d s c next → StepBy d t s c next
+    → IsStep system d s c next → StepBy d t s c next
 by_named system d s c next t known step = subst (λ (q : Transition). StepBy d q s c next) (same (sym step.1 ∙ known)) step.2
   where
     same : {x y : Transition} → Some x ≡ Some y → x ≡ y
@@ -130,10 +130,10 @@ by_named system d s c next t known step = subst (λ (q : Transition). StepBy d q
 
 -- a choice that the test refuses is no step, and a step leads to one state alone
 pub no_step : (system : SystemParts) (d : RawDb) (s : State) (c : Choice) (t : Transition) → slice_get system.transitions c.transition ≡ Some t → may_step d t s c ≡ false
-    → (next : State) → Step system d s c next → ⊥
+    → (next : State) → IsStep system d s c next → ⊥
 no_step system d s c t known fails next step =
     let passes : may_step d t s c ≡ true = may_step-from d t s next c (by_named system d s c next t known step) in cc
 
 pub only_state : (system : SystemParts) (d : RawDb) (s : State) (c : Choice) (t : Transition) → slice_get system.transitions c.transition ≡ Some t
-    → (next : State) → Step system d s c next → next ≡ state_after d t s c
+    → (next : State) → IsStep system d s c next → next ≡ state_after d t s c
 only_state system d s c t known next step = (by_named system d s c next t known step).after

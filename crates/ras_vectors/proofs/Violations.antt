@@ -1,7 +1,7 @@
 -- The runs of the unsafe systems.
 use Rattle.std.proofs.Common.{refl, [], ◌∷◌, arith}
-use Rattle.ras_system.specs.Steps.{Step}
-use Rattle.ras_system.specs.Runs.{Run, IsViolation}
+use Rattle.ras_system.specs.Steps.{IsStep}
+use Rattle.ras_system.specs.Runs.{IsRun, IsViolation}
 use Rattle.ras_vectors.specs.Words.{choice, state, cube, same}
 use Rattle.ras_vectors.specs.Hiring.{careless, apply_for_any, one_job, one_row, wrong_owner}
 use Rattle.ras_vectors.specs.Desk.{desk, take_seat, clear, two_elements, three_seats, off_and_on}
@@ -9,16 +9,16 @@ use Rattle.ras_vectors.specs.Small.{unset_is_unsafe, one_element, x, unset}
 use Rattle.ras_vectors.proofs.DataTests.{is_database-passed}
 use Rattle.ras_vectors.proofs.StateTests.{is_initial-passed, meets-passed, may_step-passed}
 
-pub first : Step desk two_elements (three_seats 2 0 0 0) (choice 0 (0 ∷ []) []) (three_seats 2 1 0 0)
+pub first : IsStep desk two_elements (three_seats 2 0 0 0) (choice 0 (0 ∷ []) []) (three_seats 2 1 0 0)
 first = (take_seat, refl, may_step-passed two_elements take_seat (three_seats 2 0 0 0) (choice 0 (0 ∷ []) []) refl)
 
-pub second : Step desk two_elements (three_seats 2 1 0 0) (choice 0 (1 ∷ []) []) (three_seats 2 1 1 0)
+pub second : IsStep desk two_elements (three_seats 2 1 0 0) (choice 0 (1 ∷ []) []) (three_seats 2 1 1 0)
 second = (take_seat, refl, may_step-passed two_elements take_seat (three_seats 2 1 0 0) (choice 0 (1 ∷ []) []) refl)
 
-pub third : Step desk two_elements (three_seats 2 1 1 0) (choice 1 (1 ∷ []) []) (three_seats 1 2 1 1)
+pub third : IsStep desk two_elements (three_seats 2 1 1 0) (choice 1 (1 ∷ []) []) (three_seats 1 2 1 1)
 third = (clear, refl, may_step-passed two_elements clear (three_seats 2 1 1 0) (choice 1 (1 ∷ []) []) refl)
 
-pub desk_run : Run desk two_elements (three_seats 2 0 0 0) (choice 0 (0 ∷ []) [] ∷ choice 0 (1 ∷ []) [] ∷ choice 1 (1 ∷ []) [] ∷ []) (three_seats 1 2 1 1)
+pub desk_run : IsRun desk two_elements (three_seats 2 0 0 0) (choice 0 (0 ∷ []) [] ∷ choice 0 (1 ∷ []) [] ∷ choice 1 (1 ∷ []) [] ∷ []) (three_seats 1 2 1 1)
 desk_run = (three_seats 2 1 0 0, first, (three_seats 2 1 1 0, second, (three_seats 1 2 1 1, third, refl)))
 
 pub desk_violation : IsViolation desk two_elements (three_seats 2 0 0 0) (choice 0 (0 ∷ []) [] ∷ choice 0 (1 ∷ []) [] ∷ choice 1 (1 ∷ []) [] ∷ []) (three_seats 1 2 1 1)

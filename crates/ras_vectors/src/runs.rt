@@ -1,7 +1,7 @@
 ghost use Rattle.std.specs.Prelude.{◌≡◌, [], ◌∷◌};
 ghost use Rattle.ras_system.specs.declared.state.State.{State};
-ghost use Rattle.ras_system.specs.Steps.{state_after, Step};
-ghost use Rattle.ras_system.specs.Runs.{Run, IsViolation, IsSafe};
+ghost use Rattle.ras_system.specs.Steps.{state_after, IsStep};
+ghost use Rattle.ras_system.specs.Runs.{IsRun, IsViolation, IsSafe};
 ghost use Rattle.ras_system.specs.Invariants.{IsInvariant};
 ghost use Rattle.ras_vectors.specs.Words.{choice, state, database};
 ghost use Rattle.ras_vectors.specs.Hiring.{hiring, careless, one_job, one_row, wrong_owner};
@@ -19,35 +19,35 @@ pub fn the_states_of_a_run()
 {}
 
 pub fn the_steps_of_a_run()
-    ensures first { Step desk two_elements (three_seats 2 0 0 0) (choice 0 (0 ∷ []) []) (three_seats 2 1 0 0) }
-    ensures second { Step desk two_elements (three_seats 2 1 0 0) (choice 0 (1 ∷ []) []) (three_seats 2 1 1 0) }
-    ensures third { Step desk two_elements (three_seats 2 1 1 0) (choice 1 (1 ∷ []) []) (three_seats 1 2 1 1) }
-    ensures run { Run desk two_elements (three_seats 2 0 0 0) (choice 0 (0 ∷ []) [] ∷ choice 0 (1 ∷ []) [] ∷ choice 1 (1 ∷ []) [] ∷ []) (three_seats 1 2 1 1) }
-    ensures no_step { Run desk two_elements (three_seats 2 0 0 0) [] (three_seats 2 0 0 0) }
+    ensures first { IsStep desk two_elements (three_seats 2 0 0 0) (choice 0 (0 ∷ []) []) (three_seats 2 1 0 0) }
+    ensures second { IsStep desk two_elements (three_seats 2 1 0 0) (choice 0 (1 ∷ []) []) (three_seats 2 1 1 0) }
+    ensures third { IsStep desk two_elements (three_seats 2 1 1 0) (choice 1 (1 ∷ []) []) (three_seats 1 2 1 1) }
+    ensures run { IsRun desk two_elements (three_seats 2 0 0 0) (choice 0 (0 ∷ []) [] ∷ choice 0 (1 ∷ []) [] ∷ choice 1 (1 ∷ []) [] ∷ []) (three_seats 1 2 1 1) }
+    ensures no_step { IsRun desk two_elements (three_seats 2 0 0 0) [] (three_seats 2 0 0 0) }
 {}
 
 /// Two relations, named rows of both, a data parameter, functions, all terms read before the step, cases in order.
 pub fn a_step_of_all_kinds()
     ensures after { state_after stock move before_move (choice 0 (4 ∷ 1 ∷ 1 ∷ []) (2 ∷ [])) ≡ after_move }
-    ensures step { Step depot stock before_move (choice 0 (4 ∷ 1 ∷ 1 ∷ []) (2 ∷ [])) after_move }
-    ensures first_disjunct { Step depot stock before_move (choice 0 (1 ∷ 0 ∷ 4 ∷ []) (2 ∷ [])) (state_after stock move before_move (choice 0 (1 ∷ 0 ∷ 4 ∷ []) (2 ∷ []))) }
+    ensures step { IsStep depot stock before_move (choice 0 (4 ∷ 1 ∷ 1 ∷ []) (2 ∷ [])) after_move }
+    ensures first_disjunct { IsStep depot stock before_move (choice 0 (1 ∷ 0 ∷ 4 ∷ []) (2 ∷ [])) (state_after stock move before_move (choice 0 (1 ∷ 0 ∷ 4 ∷ []) (2 ∷ []))) }
 {}
 
 /// A row that is none, one row twice, too few and too many rows, a value beyond its sort, too few values, a guard that is
 /// false, a transition that is none, and another state than the one that the step leads to.
 pub fn choices_that_are_no_step()
-    ensures row { (next : State) → ¬ Step desk two_elements (three_seats 2 0 0 0) (choice 0 (3 ∷ []) []) next }
-    ensures row_twice { (next : State) → ¬ Step depot stock before_move (choice 0 (4 ∷ 1 ∷ 4 ∷ []) (2 ∷ [])) next }
-    ensures row_of_the_other_relation { (next : State) → ¬ Step depot stock before_move (choice 0 (4 ∷ 3 ∷ 1 ∷ []) (2 ∷ [])) next }
-    ensures few_rows { (next : State) → ¬ Step desk two_elements (three_seats 2 0 0 0) (choice 0 [] []) next }
-    ensures many_rows { (next : State) → ¬ Step desk two_elements (three_seats 2 0 0 0) (choice 0 (0 ∷ 1 ∷ []) []) next }
-    ensures value { (next : State) → ¬ Step careless one_job (one_row 0 0) (choice 0 (0 ∷ []) (1 ∷ 3 ∷ [])) next }
-    ensures few_values { (next : State) → ¬ Step careless one_job (one_row 0 0) (choice 0 (0 ∷ []) (1 ∷ [])) next }
-    ensures guard { (next : State) → ¬ Step desk two_elements (three_seats 2 0 0 0) (choice 1 (0 ∷ []) []) next }
-    ensures both_disjuncts { (next : State) → ¬ Step depot stock before_move (choice 0 (4 ∷ 0 ∷ 1 ∷ []) (2 ∷ [])) next }
-    ensures transition { (next : State) → ¬ Step desk two_elements (three_seats 2 0 0 0) (choice 2 (0 ∷ []) []) next }
-    ensures other_state { ¬ Step desk two_elements (three_seats 2 0 0 0) (choice 0 (0 ∷ []) []) (three_seats 2 1 1 0) }
-    ensures no_step { ¬ Run desk two_elements (three_seats 2 0 0 0) [] (three_seats 2 1 0 0) }
+    ensures row { (next : State) → ¬ IsStep desk two_elements (three_seats 2 0 0 0) (choice 0 (3 ∷ []) []) next }
+    ensures row_twice { (next : State) → ¬ IsStep depot stock before_move (choice 0 (4 ∷ 1 ∷ 4 ∷ []) (2 ∷ [])) next }
+    ensures row_of_the_other_relation { (next : State) → ¬ IsStep depot stock before_move (choice 0 (4 ∷ 3 ∷ 1 ∷ []) (2 ∷ [])) next }
+    ensures few_rows { (next : State) → ¬ IsStep desk two_elements (three_seats 2 0 0 0) (choice 0 [] []) next }
+    ensures many_rows { (next : State) → ¬ IsStep desk two_elements (three_seats 2 0 0 0) (choice 0 (0 ∷ 1 ∷ []) []) next }
+    ensures value { (next : State) → ¬ IsStep careless one_job (one_row 0 0) (choice 0 (0 ∷ []) (1 ∷ 3 ∷ [])) next }
+    ensures few_values { (next : State) → ¬ IsStep careless one_job (one_row 0 0) (choice 0 (0 ∷ []) (1 ∷ [])) next }
+    ensures guard { (next : State) → ¬ IsStep desk two_elements (three_seats 2 0 0 0) (choice 1 (0 ∷ []) []) next }
+    ensures both_disjuncts { (next : State) → ¬ IsStep depot stock before_move (choice 0 (4 ∷ 0 ∷ 1 ∷ []) (2 ∷ [])) next }
+    ensures transition { (next : State) → ¬ IsStep desk two_elements (three_seats 2 0 0 0) (choice 2 (0 ∷ []) []) next }
+    ensures other_state { ¬ IsStep desk two_elements (three_seats 2 0 0 0) (choice 0 (0 ∷ []) []) (three_seats 2 1 1 0) }
+    ensures no_step { ¬ IsRun desk two_elements (three_seats 2 0 0 0) [] (three_seats 2 1 0 0) }
 {}
 
 /// A user who takes a job that another owns; seats that are switched; a variable that is not set from the start on.

@@ -1,5 +1,5 @@
 use Rattle.std.proofs.Common.{refl, [], ◌∷◌}
-use Rattle.ras_logic.specs.Clashes.{back, through, same_images, only_undef}
+use Rattle.ras_logic.specs.Clashes.{symmetric, transitive, same_images, only_undef}
 use Rattle.ras_vectors.specs.Words.{function, total, same, apart}
 use Rattle.ras_vectors.specs.Depot.{schema, place, shelf, hall_of, no_shelf, no_hall}
 use Rattle.ras_vectors.proofs.Facts.{side, said_over, denied_over}
@@ -10,8 +10,8 @@ returns-clause-clash c =
     let literals = apart (hall_of place) (hall_of (shelf 0)) ∷ [] in
     let facts = same place (shelf 0) ∷ same no_hall (hall_of place) ∷ apart (shelf 0) no_shelf ∷ [] in
     denied_over schema literals facts 2 (shelf 0) no_shelf refl
-    (through (shelf 0) place no_shelf (back place (shelf 0) (said_over schema literals facts 0 place (shelf 0) refl))
-    (only_undef place (function 1) (total 1 2) refl refl (back no_hall (hall_of place) (said_over schema literals facts 1 no_hall (hall_of place) refl))))
+    (transitive (shelf 0) place no_shelf (symmetric place (shelf 0) (said_over schema literals facts 0 place (shelf 0) refl))
+    (only_undef place (function 1) (total 1 2) refl refl (symmetric no_hall (hall_of place) (said_over schema literals facts 1 no_hall (hall_of place) refl))))
 
 pub returns-clause-clash_of_images : goal.returns-clause-clash_of_images
 returns-clause-clash_of_images c =

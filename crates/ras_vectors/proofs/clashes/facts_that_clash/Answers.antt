@@ -1,5 +1,5 @@
 use Rattle.std.proofs.Common.{refl, [], ◌∷◌}
-use Rattle.ras_logic.specs.Clashes.{itself, back, through, same_images, image_of_undef, only_undef, constant_undef}
+use Rattle.ras_logic.specs.Clashes.{reflexive, symmetric, transitive, same_images, image_of_undef, only_undef, constant_undef}
 use Rattle.ras_vectors.specs.Words.{sort, function, constant, nullable, total, same, apart}
 use Rattle.ras_vectors.specs.Depot.{schema, place, parcel, shelf, stand, picked, shelf_of, hall_of, front, back as behind, no_parcel, no_shelf, no_hall}
 use Rattle.ras_vectors.proofs.Facts.{side, part_of_side, said, denied, constants_together}
@@ -8,18 +8,18 @@ use Rattle.ras_vectors.proofs.clashes.facts_that_clash.Goals as goal
 pub returns-clause-itself : goal.returns-clause-itself
 returns-clause-itself c =
     let facts = apart place place ∷ [] in
-    denied schema facts 0 place place refl (itself place (side schema facts 0 place refl))
+    denied schema facts 0 place place refl (reflexive place (side schema facts 0 place refl))
 
 pub returns-clause-back : goal.returns-clause-back
 returns-clause-back c =
     let facts = same place front ∷ apart front place ∷ [] in
-    denied schema facts 1 front place refl (back place front (said schema facts 0 place front refl))
+    denied schema facts 1 front place refl (symmetric place front (said schema facts 0 place front refl))
 
 pub returns-clause-through : goal.returns-clause-through
 returns-clause-through c =
     let facts = same place (shelf 0) ∷ apart place (stand 1) ∷ same (shelf 0) (stand 1) ∷ [] in
     denied schema facts 1 place (stand 1) refl
-    (through place (shelf 0) (stand 1) (said schema facts 0 place (shelf 0) refl) (said schema facts 2 (shelf 0) (stand 1) refl))
+    (transitive place (shelf 0) (stand 1) (said schema facts 0 place (shelf 0) refl) (said schema facts 2 (shelf 0) (stand 1) refl))
 
 pub returns-clause-images : goal.returns-clause-images
 returns-clause-images c =
@@ -63,7 +63,7 @@ pub returns-clause-constants : goal.returns-clause-constants
 returns-clause-constants c =
     let facts = same place front ∷ same behind place ∷ [] in
     constants_together schema facts 1 0 (λ e. cc)
-    (through behind place front (said schema facts 1 behind place refl) (said schema facts 0 place front refl))
+    (transitive behind place front (said schema facts 1 behind place refl) (said schema facts 0 place front refl))
 
 pub returns-clause-constant_and_undef : goal.returns-clause-constant_and_undef
 returns-clause-constant_and_undef c =

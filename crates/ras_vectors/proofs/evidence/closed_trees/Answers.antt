@@ -1,5 +1,5 @@
 use Rattle.std.proofs.Common.{refl, [], ◌∷◌}
-use Rattle.ras_logic.specs.Clashes.{back}
+use Rattle.ras_logic.specs.Clashes.{symmetric}
 use Rattle.ras_vectors.specs.Words.{cube, same, apart}
 use Rattle.ras_vectors.specs.Depot.{schema, twins, tasks, carts, parcel, shelf, place, hall, front, main_hall}
 use Rattle.ras_vectors.proofs.Facts.{said, denied, said_and_denied}
@@ -22,8 +22,8 @@ returns-clause-rows_turned c = (
   are_rows_of (tasks ∷ carts ∷ tasks ∷ []) twins.rows (2 ∷ 0 ∷ []) (refl, (refl, tt)) refl,
   refl,
   (
-    denied schema _ 0 (parcel 2) (parcel 0) refl (back (parcel 0) (parcel 2) (said schema _ 1 (parcel 0) (parcel 2) refl)),
-    (denied schema _ 2 (shelf 0) (shelf 2) refl (back (shelf 2) (shelf 0) (said schema _ 0 (shelf 2) (shelf 0) refl)), tt),
+    denied schema _ 0 (parcel 2) (parcel 0) refl (symmetric (parcel 0) (parcel 2) (said schema _ 1 (parcel 0) (parcel 2) refl)),
+    (denied schema _ 2 (shelf 0) (shelf 2) refl (symmetric (shelf 2) (shelf 0) (said schema _ 0 (shelf 2) (shelf 0) refl)), tt),
   ),
 )
 
