@@ -1,0 +1,12 @@
+pub mod Lists
+pub mod Entries
+pub mod Tables
+pub mod Uniting
+pub mod Due
+pub mod Soundness
+pub mod Least
+pub mod Clashing
+pub mod Choices
+pub mod Walking
+pub mod Wider
+pub mod Passing

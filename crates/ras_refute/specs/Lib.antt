@@ -1,0 +1,6 @@
+pub mod Sides
+pub mod Tables
+pub mod Classes
+pub mod Clashing
+pub mod Faults
+pub mod Walks

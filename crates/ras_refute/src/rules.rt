@@ -1,0 +1,162 @@
+ghost use Rattle.std.specs.Prelude.{◌≡◌, ◌<◌, ℕ, List, length, slice_get, IfOk, IfSome, MatchOption};
+ghost use Rattle.ras_logic.specs.declared.literal.Literal.{Literal};
+ghost use Rattle.ras_logic.specs.Schemas.{SchemaParts, HasSorts};
+ghost use Rattle.ras_refute.specs.Tables.{IsTable, HasUndefs, AreAllSides, IsTableOf};
+ghost use Rattle.ras_refute.specs.Classes.{IsImage, MeetFacts, MeetImages, MeetUndef, MeetRulesAt, AreClosed, IsUnlike, IsDue, ArePartial, AreLeast};
+
+use crate::classes::{separate, unite};
+use crate::entry::{Entry, Pair};
+use crate::sides::says_same;
+use crate::table::Table;
+use ras_logic::{FunDecl, FunId, Literal, Schema};
+use std::alloc::{AllocError, Global};
+
+/// The sides of a fact that says that they are the same, where they are in different classes.
+fn unmet_fact(facts: &[Literal], table: &Table, classes: &[u32]) -> Option<Pair>
+    requires numbers { AreAllSides table.now.entries facts.now table.now.sides }
+    requires as_many { length classes.now ≡ length table.now.entries }
+    ensures { MatchOption result (MeetFacts facts.now table.now.sides classes.now) (λ pair. (schema : SchemaParts) → IsDue schema facts.now table.now classes.now pair) }
+{
+    let sides = table.sides.as_slice();
+    for k in 0..facts.len() {
+        let pair = sides[k];
+        if says_same(&facts[k]) && classes[pair.left as usize] != classes[pair.right as usize] {
+            return Some(pair);
+        }
+    }
+    None
+}
+
+/// The image by the same function of a term of the same class, in another class.
+fn unlike_image(table: &Table, classes: &[u32], i: u32, of: u32, function: FunId) -> Option<u32>
+    requires table { IsTable table.now.entries }
+    requires as_many { length classes.now ≡ length table.now.entries }
+    requires image { IsImage table.now.entries i of function }
+    ensures { MatchOption result (MeetImages table.now.entries classes.now i of function) (IsUnlike table.now.entries classes.now i of function) }
+{
+    let entries = table.entries.as_slice();
+    for j in 0..entries.len() {
+        if let Entry::Image {
+            of: other,
+            function: by,
+        } = entries[j]
+        {
+            if by.n == function.n
+                && classes[other as usize] == classes[of as usize]
+                && classes[j] != classes[i as usize]
+            {
+                return Some(j as u32);
+            }
+        }
+    }
+    None
+}
+
+/// A function of the schema.
+fn declared(schema: &Schema, function: FunId) -> Option<FunDecl>
+    ensures known { result ≡ slice_get schema.now.functions function.n }
+    ensures sorts { IfSome result (HasSorts schema.now.sorts) }
+{
+    schema.known();
+    schema.functions().get(function.n as usize).copied()
+}
+
+/// Two terms of different classes that a rule for undef puts together.
+fn unmet_undef(
+    schema: &Schema,
+    table: &Table,
+    classes: &[u32],
+    i: u32,
+    of: u32,
+    function: FunId,
+) -> Option<Pair>
+    requires table { IsTable table.now.entries }
+    requires undefs { HasUndefs schema.now.sorts table.now.entries }
+    requires as_many { length classes.now ≡ length table.now.entries }
+    requires image { IsImage table.now.entries i of function }
+    ensures { MatchOption result (MeetUndef schema.now classes.now i of function) (λ pair. (facts : List Literal) → IsDue schema.now facts table.now classes.now pair) }
+{
+    let decl = declared(schema, function)?;
+    let source = decl.source.n as u32;
+    let target = decl.target.n as u32;
+    if classes[of as usize] == classes[source as usize] {
+        if classes[i as usize] != classes[target as usize] {
+            return Some(Pair {
+                left: i,
+                right: target,
+            });
+        }
+    } else if decl.total && classes[i as usize] == classes[target as usize] {
+        return Some(Pair {
+            left: of,
+            right: source,
+        });
+    }
+    None
+}
+
+/// Two terms of different classes that a rule puts together for the term `i`.
+fn unmet_rule(schema: &Schema, table: &Table, classes: &[u32], i: u32) -> Option<Pair>
+    requires table { IsTable table.now.entries }
+    requires undefs { HasUndefs schema.now.sorts table.now.entries }
+    requires as_many { length classes.now ≡ length table.now.entries }
+    requires within { i < length table.now.entries }
+    ensures { MatchOption result (MeetRulesAt schema.now table.now.entries classes.now i) (λ pair. (facts : List Literal) → IsDue schema.now facts table.now classes.now pair) }
+{
+    match table.entries.as_slice()[i as usize] {
+        Entry::Root(_) => None,
+        Entry::Image { of, function } => {
+            if let Some(pair) = unmet_undef(schema, table, classes, i, of, function) {
+                return Some(pair);
+            }
+            let other = unlike_image(table, classes, i, of, function)?;
+            Some(Pair {
+                left: i,
+                right: other,
+            })
+        }
+    }
+}
+
+/// Two terms of different classes that a fact or a rule puts together.
+fn due_pair(schema: &Schema, facts: &[Literal], table: &Table, classes: &[u32]) -> Option<Pair>
+    requires table { IsTableOf schema.now facts.now table.now }
+    requires as_many { length classes.now ≡ length table.now.entries }
+    ensures { MatchOption result (AreClosed schema.now facts.now table.now classes.now) (IsDue schema.now facts.now table.now classes.now) }
+{
+    if let Some(pair) = unmet_fact(facts, table, classes) {
+        return Some(pair);
+    }
+    for i in 0..table.entries.len() {
+        if let Some(pair) = unmet_rule(schema, table, classes, i as u32) {
+            return Some(pair);
+        }
+    }
+    None
+}
+
+/// Puts classes together until no fact and no rule asks for more.
+fn close(schema: &Schema, facts: &[Literal], table: &Table, classes: &mut [u32])
+    requires { ArePartial schema.now facts.now table.now classes.old }
+    ensures { AreLeast schema.now facts.now table.now classes.new }
+{
+    schema.known();
+    while let Some(pair) = due_pair(schema, facts, table, classes) {
+        unite(classes, pair.left as usize, pair.right as usize);
+    }
+}
+
+/// The classes of the least relation that has what the facts say and is closed under the rules.
+pub fn least_classes(
+    alloc: Global,
+    schema: &Schema,
+    facts: &[Literal],
+    table: &Table,
+) -> Result<Vec<u32>, AllocError>
+    requires { IsTableOf schema.now facts.now table.now }
+    ensures { IfOk result (λ v. AreLeast schema.now facts.now table.now v.items) }
+{
+    let mut classes = separate(alloc, table.entries.len())?;
+    close(schema, facts, table, &mut classes);
+    Ok(classes)
+}
