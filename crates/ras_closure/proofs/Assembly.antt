@@ -4,10 +4,12 @@ use Rattle.std.specs.Prelude.{None}
 use Rattle.ras_logic.specs.declared.ids.SortId.{SortId}
 use Rattle.ras_logic.specs.declared.raw_db.RawDb.{RawDb}
 use Rattle.ras_logic.specs.declared.values.Values.{Values}
-use Rattle.ras_closure.specs.Numbered.{IsTable}
+use Rattle.ras_logic.specs.declared.term.Term.{Term}
+use Rattle.ras_logic.specs.Truth.{value}
+use Rattle.ras_closure.specs.Numbered.{IsAt, IsTable}
 use Rattle.ras_closure.specs.Closures.{ClosureParts, IsClosure, IsFactOf, IsModelOf}
 use Rattle.ras_closure.specs.Models.{AreNumbers, IsModelDb, AreModelValues}
-use Rattle.ras_closure.proofs.Models.{model-database, model-values, model-holds, model-apart}
+use Rattle.ras_closure.proofs.Models.{model-database, model-values, model-holds, model-apart, value-number}
 use Rattle.ras_closure.proofs.Laws.{facts_known, consistent}
 
 module _ (c : ClosureParts) (table : IsTable c.table) (closure : IsClosure c) (none : c.clash ≡ None) (number : ℕ → ℕ) (size : SortId → ℕ)
@@ -27,3 +29,8 @@ module _ (c : ClosureParts) (table : IsTable c.table) (closure : IsClosure c) (n
         table.fits.literals (IsFactOf c) closure.facts_fit (facts_known c table closure) c.table.terms c.classes table.terms closure.closed (consistent c table closure none) number size numbers d db
         v values;
   }
+
+  pub term-number : (i : ℕ) (s : Term) → IsAt c.table.terms i s → value d v s ≡ number i
+  term-number = value-number c.table.shape c.table.problem.rows c.table.problem.params table.shape.schema table.shape.vars table.shape.columns table.fits.params c.table.problem.literals
+      table.fits.literals (IsFactOf c) closure.facts_fit (facts_known c table closure) c.table.terms c.classes table.terms closure.closed (consistent c table closure none) number size numbers d db
+      v values

@@ -6,7 +6,7 @@ use Rattle.ras_logic.specs.declared.term.Term.{Term}
 use Rattle.ras_logic.specs.declared.literal.Literal.{Literal}
 use Rattle.ras_logic.specs.declared.literal.Literal.TheVariants.{Equal}
 use Rattle.ras_logic.specs.Schemas.{SchemaParts}
-use Rattle.ras_logic.specs.Clashes.{Together, itself, back, through, stated, same_images, image_of_undef, only_undef}
+use Rattle.ras_logic.specs.Clashes.{Together, reflexive, symmetric, transitive, stated, same_images, image_of_undef, only_undef}
 use Rattle.ras_closure.specs.declared.clash.Clash.{Clash}
 use Rattle.ras_closure.specs.declared.term_no.TermNo.{TermNo}
 use Rattle.ras_closure.specs.Numbered.{IsAt, TableParts, IsTable}
@@ -15,14 +15,14 @@ use Rattle.ras_closure.specs.Classes.{class, AreClosed}
 use Rattle.ras_closure.specs.Saturation.{ArePartial, AreTogether, AreClashing, AreUnbroken, IsVerdict, IsRest}
 use Rattle.ras_closure.specs.Closures.{ClosureParts, IsClosure, IsNo, AreOfOneSort, IsFactOf, IsLiteralOf, AddsFact}
 use Rattle.ras_closure.proofs.NoFacts.{no_facts-no_clash}
-use Rattle.ras_closure.proofs.Steps.{term_at, saturated-closed, rigid-within, clashing-conflict, conflict-clash}
+use Rattle.ras_closure.proofs.Merges.{term_at, saturated-closed, rigid-within, clashing-conflict, conflict-clash}
 
 -- more facts put no fewer terms together
 pub together-more : (schema : SchemaParts) (literals : List Literal) (F G : Literal → Type 0) → ((l : Literal) → F l → G l) → {s t : Term}
     → Together schema literals F s t → Together schema literals G s t
-together-more schema literals F G more (itself t known) = itself t known
-together-more schema literals F G more (back s t r) = back s t (together-more schema literals F G more r)
-together-more schema literals F G more (through r s t p q) = through r s t (together-more schema literals F G more p) (together-more schema literals F G more q)
+together-more schema literals F G more (reflexive t known) = reflexive t known
+together-more schema literals F G more (symmetric s t r) = symmetric s t (together-more schema literals F G more r)
+together-more schema literals F G more (transitive r s t p q) = transitive r s t (together-more schema literals F G more p) (together-more schema literals F G more q)
 together-more schema literals F G more (stated s t fact) = stated s t (more (Equal s t true) fact)
 together-more schema literals F G more (same_images s t f r one other) = same_images s t f (together-more schema literals F G more r) one other
 together-more schema literals F G more (image_of_undef t f d known r one) = image_of_undef t f d known (together-more schema literals F G more r) one
@@ -188,7 +188,7 @@ module _ (t : TableParts) (table : IsTable t) (marks : MarkParts) (width : marks
           let two = own j (rw all (slice_get_within t.terms j u at_j)) in
           let same : i ≡ j = sym one ∙ e ∙ two in
           let terms_same : s ≡ u = some_same (sym at_i ∙ subst (λ (k : ℕ). slice_get t.terms k ≡ Some u) (sym same) at_j) in
-          subst (λ (w : Term). Together t.shape.schema t.problem.literals (IsAsserted t.terms marks) s w) terms_same (itself s (table.terms.known i s at_i));
+          subst (λ (w : Term). Together t.shape.schema t.problem.literals (IsAsserted t.terms marks) s w) terms_same (reflexive s (table.terms.known i s at_i));
     }
       where
         some_same : {u w : Term} → Some u ≡ Some w → u ≡ w

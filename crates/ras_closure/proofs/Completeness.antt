@@ -8,7 +8,7 @@ use Rattle.ras_logic.specs.declared.literal.Literal.{Literal}
 use Rattle.ras_logic.specs.declared.literal.Literal.TheVariants.{Equal}
 use Rattle.ras_logic.specs.Schemas.{SchemaParts}
 use Rattle.ras_logic.specs.Terms.{undef_term, image_term}
-use Rattle.ras_logic.specs.Clashes.{IsTerm, Together, itself, back, through, stated, same_images, image_of_undef, only_undef}
+use Rattle.ras_logic.specs.Clashes.{IsTerm, Together, reflexive, symmetric, transitive, stated, same_images, image_of_undef, only_undef}
 use Rattle.ras_closure.specs.Classes.{class, AreClosed}
 use Rattle.ras_closure.specs.Numbered.{IsAt, AreTerms}
 use Rattle.ras_closure.proofs.Prefixes.{parent-term}
@@ -26,9 +26,9 @@ module _ (schema : SchemaParts) (literals : List Literal) (IsFact : Literal → 
     pub same : class classes i ≡ class classes j
 
   alike : (s t : Term) → Together schema literals IsFact s t → Alike s t
-  alike s t (itself u known) = let a = are.complete u known in record { i = a.0; j = a.0; left = a.1; right = a.1; same = refl }
-  alike s t (back u w r) = let a = alike u w r in record { i = a.j; j = a.i; left = a.right; right = a.left; same = sym a.same }
-  alike s t (through u w x p q) =
+  alike s t (reflexive u known) = let a = are.complete u known in record { i = a.0; j = a.0; left = a.1; right = a.1; same = refl }
+  alike s t (symmetric u w r) = let a = alike u w r in record { i = a.j; j = a.i; left = a.right; right = a.left; same = sym a.same }
+  alike s t (transitive u w x p q) =
       let a = alike u w p in let b = alike w x q in
       record { i = a.i; j = b.j; left = a.left; right = b.right; same = a.same ∙ ap (class classes) (are.different a.j b.i w a.right b.left) ∙ b.same }
   alike s t (stated u w fact) =

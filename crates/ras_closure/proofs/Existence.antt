@@ -22,7 +22,7 @@ use Rattle.ras_closure.specs.Models.{IsImage, IsTableOf, IsElementOf, AreElement
 use Rattle.ras_closure.specs.ModelParts.{IsImageAt}
 use Rattle.ras_closure.proofs.Images.{image-found, image-none}
 use Rattle.ras_closure.proofs.Numbers.{uniform-numbers}
-use Rattle.ras_closure.proofs.Steps.{below}
+use Rattle.ras_closure.proofs.Merges.{below}
 use Rattle.ras_closure.proofs.Laws.{consistent}
 use Rattle.ras_closure.proofs.Assembly.{model-of}
 

@@ -15,7 +15,7 @@ use Rattle.ras_logic.specs.Terms.{image_term}
 use Rattle.ras_closure.specs.Numbered.{TableParts, IsTable}
 use Rattle.ras_closure.specs.Models.{HasNoImage, IsImage, IsTableOf, AreTables, AreElementsOf, AreRowsWith}
 use Rattle.ras_closure.specs.ModelParts.{IsImageAt}
-use Rattle.ras_closure.proofs.Steps.{link-of, term_at}
+use Rattle.ras_closure.proofs.Merges.{link-of, term_at}
 
 module _ (t : TableParts) (table : IsTable t) (number : ℕ → ℕ) (f : FunId) (x : ℕ) where
   pub image-found : (size : SortId → ℕ) (decl : FunDecl) (k y : ℕ) → IsImageAt t number f x k → y ≡ number k → IsImage t.terms number size f decl x y

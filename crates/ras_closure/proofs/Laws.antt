@@ -15,7 +15,7 @@ use Rattle.ras_closure.specs.Closures.{ClosureParts, IsClosure, IsFactOf, AreTog
 use Rattle.ras_closure.proofs.Sorting.{from_known}
 use Rattle.ras_closure.proofs.Soundness.{clash-none}
 use Rattle.ras_closure.proofs.Completeness.{together-class}
-use Rattle.ras_closure.proofs.Steps.{term_at, clashing-conflict, conflict-clash}
+use Rattle.ras_closure.proofs.Merges.{term_at, clashing-conflict, conflict-clash}
 
 module _ (c : ClosureParts) (table : IsTable c.table) (closure : IsClosure c) where
   pub facts_known : (s t : Term) (same : Bool) → IsFactOf c (Equal s t same) → IsTerm c.table.shape.schema c.table.problem.literals s × IsTerm c.table.shape.schema c.table.problem.literals t

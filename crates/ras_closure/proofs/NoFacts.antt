@@ -9,8 +9,8 @@ use Rattle.ras_logic.specs.declared.literal.Literal.{Literal}
 use Rattle.ras_logic.specs.declared.literal.Literal.TheVariants.{Equal}
 use Rattle.ras_logic.specs.Schemas.{SchemaParts}
 use Rattle.ras_logic.specs.Terms.{constant_term, undef_term, image_term}
-use Rattle.ras_logic.specs.Clashes.{Together, Clash, itself, back, through, stated, same_images, image_of_undef, only_undef, stated_apart, two_constants, constant_undef}
-use Rattle.ras_closure.proofs.Steps.{no_snoc}
+use Rattle.ras_logic.specs.Clashes.{Together, Clash, reflexive, symmetric, transitive, stated, same_images, image_of_undef, only_undef, stated_apart, two_constants, constant_undef}
+use Rattle.ras_closure.proofs.Merges.{no_snoc}
 
 -- the term begins at an undef
 abbrev IsRooted : Term → Type 0
@@ -20,11 +20,11 @@ module _ (schema : SchemaParts) (literals : List Literal) (F : Literal → Type 
   abbrev Alike : Term → Term → Type 0
   Alike s t = (s ≡ t) ⊎ (IsRooted s × IsRooted t)
 
-  alike_through : (r s t : Term) → Alike r s → Alike s t → Alike r t
-  alike_through r s t (inl e) (inl g) = inl (e ∙ g)
-  alike_through r s t (inl e) (inr g) = inr (subst IsRooted (sym e) g.0, g.1)
-  alike_through r s t (inr e) (inl g) = inr (e.0, subst IsRooted g e.1)
-  alike_through r s t (inr e) (inr g) = inr (e.0, g.1)
+  alike_transitive : (r s t : Term) → Alike r s → Alike s t → Alike r t
+  alike_transitive r s t (inl e) (inl g) = inl (e ∙ g)
+  alike_transitive r s t (inl e) (inr g) = inr (subst IsRooted (sym e) g.0, g.1)
+  alike_transitive r s t (inr e) (inl g) = inr (e.0, subst IsRooted g e.1)
+  alike_transitive r s t (inr e) (inr g) = inr (e.0, g.1)
 
   alike_images : (s t : Term) (f : FunId) → Alike s t → Alike (image_term s f) (image_term t f)
   alike_images s t f (inl e) = inl (ap (λ (u : Term). image_term u f) e)
@@ -39,9 +39,9 @@ module _ (schema : SchemaParts) (literals : List Literal) (F : Literal → Type 
   alike_only t f a b (inr e) = inr (e.0, (a, refl))
 
   alike : {s t : Term} → Together schema literals F s t → Alike s t
-  alike (itself t known) = inl refl
-  alike (back s t r) = ⊎_elim (λ (e : s ≡ t). inl (sym e)) (λ (e : IsRooted s × IsRooted t). inr (e.1, e.0)) (alike r)
-  alike (through r s t p q) = alike_through r s t (alike p) (alike q)
+  alike (reflexive t known) = inl refl
+  alike (symmetric s t r) = ⊎_elim (λ (e : s ≡ t). inl (sym e)) (λ (e : IsRooted s × IsRooted t). inr (e.1, e.0)) (alike r)
+  alike (transitive r s t p q) = alike_transitive r s t (alike p) (alike q)
   alike (stated s t fact) = absurd (none (Equal s t true) fact)
   alike (same_images s t f r one other) = alike_images s t f (alike r)
   alike (image_of_undef t f d known r one) = alike_undef t f d.source d.target (alike r)

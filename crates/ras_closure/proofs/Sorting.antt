@@ -1,7 +1,10 @@
 -- Terms that are together have one sort.
-use Rattle.std.proofs.Common.{◌≡◌, ℕ, true, List, [], ◌∷◌, ◌++◌, get_or, refl, sym, ◌∙◌, ap, subst}
-use Rattle.std.specs.Prelude.{slice_get, Option, Some, None, option_and_then, All}
-use Rattle.std.proofs.lemmas.Option.{slice_get_within, get_or_from_slice_get, slice_get-get_or}
+use Rattle.std.proofs.Common.{◌≡◌, ◌<◌, ℕ, true, List, [], ◌∷◌, ◌++◌, get_or, refl, sym, ◌∙◌, ap, subst}
+use Rattle.std.specs.Prelude.{slice_get, Option, Some, None, option_and_then, All, nat_lt}
+use Rattle.ras_logic.specs.declared.term.Base.{Base}
+use Rattle.ras_logic.specs.declared.term.Base.TheVariants.{Var, Cell, Constant, Undef, Param}
+use Rattle.std.proofs.lemmas.Option.{slice_get_within, get_or_from_slice_get, slice_get-get_or, cond_some}
+use Rattle.std.proofs.lemmas.Bool.{ltb-true}
 use Rattle.std.proofs.lemmas.List.Elements.{All-contains, All-head, All-tail, All-nil, All-cons}
 use Rattle.ras_logic.specs.declared.ids.SortId.{SortId}
 use Rattle.ras_logic.specs.declared.ids.FunId.{FunId}
@@ -11,15 +14,44 @@ use Rattle.ras_logic.specs.declared.term.Term.{Term}
 use Rattle.ras_logic.specs.declared.literal.Literal.{Literal}
 use Rattle.ras_logic.specs.declared.literal.Literal.TheVariants.{Equal}
 use Rattle.ras_logic.specs.Shapes.{ShapeParts}
-use Rattle.ras_logic.specs.Schemas.{IsSchema, HasSorts}
+use Rattle.ras_logic.specs.Schemas.{IsSchema, IsSort, HasSorts}
 use Rattle.ras_logic.specs.Formulas.{LiteralFits}
 use Rattle.ras_logic.specs.Terms.{sort_of_base, sort_after, sort_along, sort_of, undef_term, image_term}
 use Rattle.ras_logic.proofs.TermSorts.{and_then_through, and_then_from, sort_after-step, sort_after-known, sort_along-append, sort_of-undef, undef-sort, sort_of-constant}
-use Rattle.ras_logic.specs.Clashes.{sides, IsPrefixOf, IsTerm, of_literals, a_constant, an_undef, Together, itself, back, through, stated, same_images, image_of_undef, only_undef}
+use Rattle.ras_logic.specs.Clashes.{sides, IsPrefixOf, IsTerm, of_literals, a_constant, an_undef, Together, reflexive, symmetric, transitive, stated, same_images, image_of_undef, only_undef}
 
 -- what holds of each element holds of one that is read
 pub from_known : {A : Type 0} (P : A → Type 0) (xs : List A) → All P xs → (k : ℕ) (x : A) → slice_get xs k ≡ Some x → P x
 from_known P xs all k x known = subst P (get_or_from_slice_get xs k x x known) (all k x (slice_get_within xs k x known))
+
+-- the sort of a term exists
+module _ (shape : ShapeParts) (rows : List RelId) (params : List SortId) (ok : IsSchema shape.schema)
+    (vars_sorted : All (IsSort shape.schema.sorts) shape.vars) (columns_sorted : All (All (IsSort shape.schema.sorts)) shape.relations)
+    (params_sorted : All (IsSort shape.schema.sorts) params) where
+  base-within : (b : Base) (u : SortId) → sort_of_base shape rows params b ≡ Some u → u.n < shape.schema.sorts
+  base-within (Var x) u h = from_known (IsSort shape.schema.sorts) shape.vars vars_sorted x.n u h
+  base-within (Cell row column) u h =
+      let t = and_then_through (λ (r : RelId). option_and_then (λ (columns : List SortId). slice_get columns column) (slice_get shape.relations r.n)) (slice_get rows row) u h in
+      let w = and_then_through (λ (columns : List SortId). slice_get columns column) (slice_get shape.relations t.mid.n) u t.second in
+      from_known (IsSort shape.schema.sorts) w.mid (from_known (All (IsSort shape.schema.sorts)) shape.relations columns_sorted t.mid.n w.mid w.first) column u w.second
+  base-within (Constant c) u h = from_known (IsSort shape.schema.sorts) shape.schema.constants ok.constants c.n u h
+  base-within (Undef s) u h =
+      let b = cond_some (nat_lt s.n shape.schema.sorts) s u h in
+      subst (λ (q : SortId). q.n < shape.schema.sorts) b.1 (ltb-true s.n shape.schema.sorts b.0)
+  base-within (Param p) u h = from_known (IsSort shape.schema.sorts) params params_sorted p u h
+
+  along-within : (path : List FunId) (s u : SortId) → s.n < shape.schema.sorts → sort_along shape.schema path s ≡ Some u → u.n < shape.schema.sorts
+  along-within [] s u lt h = let same : s ≡ u = cc in subst (λ (q : SortId). q.n < shape.schema.sorts) same lt
+  along-within (f ∷ path) s u lt h =
+      let t = and_then_through (sort_along shape.schema path) (sort_after shape.schema f s) u h in
+      let q = sort_after-step shape.schema f s t.mid t.first in
+      let sorts = from_known (HasSorts shape.schema.sorts) shape.schema.functions ok.functions f.n q.decl q.known in
+      along-within path t.mid u (subst (λ (r : SortId). r.n < shape.schema.sorts) q.target_is sorts.1) t.second
+
+  pub sort-within : (t : Term) (u : SortId) → sort_of shape rows params t ≡ Some u → u.n < shape.schema.sorts
+  sort-within t u h =
+      let w = and_then_through (sort_along shape.schema t.path) (sort_of_base shape rows params t.base) u h in
+      along-within t.path w.mid u (base-within t.base w.mid w.first) w.second
 
 pub record HasSort (shape : ShapeParts) (rows : List RelId) (params : List SortId) (t : Term) : Type 0 where
   pub sort : SortId
@@ -79,8 +111,8 @@ module _ (shape : ShapeParts) (rows : List RelId) (params : List SortId) (ok : I
     pub left : sort_of shape rows params s ≡ Some sort
     pub right : sort_of shape rows params t ≡ Some sort
 
-  sorted_through : (r s t : Term) → SameSort r s → SameSort s t → SameSort r t
-  sorted_through r s t a b = let one : a.sort ≡ b.sort = cc in record { sort = a.sort; left = a.left; right = rw one b.right }
+  sorted_transitive : (r s t : Term) → SameSort r s → SameSort s t → SameSort r t
+  sorted_transitive r s t a b = let one : a.sort ≡ b.sort = cc in record { sort = a.sort; left = a.left; right = rw one b.right }
 
   sorted_images : (s t : Term) (f : FunId) → SameSort s t → HasSort shape rows params (image_term s f) → SameSort (image_term s f) (image_term t f)
   sorted_images s t f a h =
@@ -117,16 +149,16 @@ module _ (shape : ShapeParts) (rows : List RelId) (params : List SortId) (ok : I
     right = sort_of-undef shape rows params decl.source ((from_known (HasSorts shape.schema.sorts) shape.schema.functions ok.functions f.n decl known).0);
   }
 
-  sorted_itself : (t : Term) → HasSort shape rows params t → SameSort t t
-  sorted_itself t h = record { sort = h.sort; left = h.is_sort; right = h.is_sort }
+  sorted_reflexive : (t : Term) → HasSort shape rows params t → SameSort t t
+  sorted_reflexive t h = record { sort = h.sort; left = h.is_sort; right = h.is_sort }
 
   sorted_stated : (s t : Term) → IsFact (Equal s t true) → SameSort s t
   sorted_stated s t inside = let f = facts_fit (Equal s t true) inside in record { sort = f.0; left = f.1; right = f.2 }
 
   pub together-sorted : {s t : Term} → Together shape.schema literals IsFact s t → SameSort s t
-  together-sorted (itself t known) = sorted_itself t (term-sorted shape rows params literals fit known)
-  together-sorted (back s t r) = let a = together-sorted r in record { sort = a.sort; left = a.right; right = a.left }
-  together-sorted (through r s t p q) = sorted_through r s t (together-sorted p) (together-sorted q)
+  together-sorted (reflexive t known) = sorted_reflexive t (term-sorted shape rows params literals fit known)
+  together-sorted (symmetric s t r) = let a = together-sorted r in record { sort = a.sort; left = a.right; right = a.left }
+  together-sorted (transitive r s t p q) = sorted_transitive r s t (together-sorted p) (together-sorted q)
   together-sorted (stated s t inside) = sorted_stated s t inside
   together-sorted (same_images s t f r one other) = sorted_images s t f (together-sorted r) (term-sorted shape rows params literals fit one)
   together-sorted (image_of_undef t f decl known r one) = sorted_image_of_undef t f decl known (together-sorted r)

@@ -18,7 +18,7 @@ use Rattle.ras_logic.specs.Truth.{AreValues, value_of_base, value}
 use Rattle.ras_logic.specs.Formulas.{LiteralFits}
 use Rattle.ras_logic.specs.Terms.{undef_term, image_term}
 use Rattle.ras_logic.proofs.TermSorts.{image_along-append, image-total, value-element, constant-sort}
-use Rattle.ras_logic.specs.Clashes.{Together, Clash, itself, back, through, stated, same_images, image_of_undef, only_undef, stated_apart, two_constants, constant_undef}
+use Rattle.ras_logic.specs.Clashes.{Together, Clash, reflexive, symmetric, transitive, stated, same_images, image_of_undef, only_undef, stated_apart, two_constants, constant_undef}
 use Rattle.ras_closure.specs.Closures.{EachHolds}
 use Rattle.ras_closure.proofs.Sorting.{SameSort, together-sorted, image-source}
 
@@ -38,9 +38,9 @@ module _ (shape : ShapeParts) (rows : List RelId) (params : List SortId) (ok : I
       (sym (value-image d v t f) ∙ zero_image)
 
   pub together-value : {s t : Term} → Together shape.schema literals IsFact s t → value d v s ≡ value d v t
-  together-value (itself t known) = refl
-  together-value (back s t r) = sym (together-value r)
-  together-value (through r s t p q) = together-value p ∙ together-value q
+  together-value (reflexive t known) = refl
+  together-value (symmetric s t r) = sym (together-value r)
+  together-value (transitive r s t p q) = together-value p ∙ together-value q
   together-value (stated s t inside) = eqb-true (value d v s) (value d v t) (hold (Equal s t true) inside)
   together-value (same_images s t f r one other) = value-image d v s f ∙ ap (image d f.n) (together-value r) ∙ sym (value-image d v t f)
   together-value (image_of_undef t f decl known r one) = value-image d v t f ∙ ap (image d f.n) (together-value r)

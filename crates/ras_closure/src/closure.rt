@@ -6,13 +6,15 @@ ghost use Rattle.ras_logic.specs.Clashes.{IsTerm};
 ghost use Rattle.ras_closure.specs.declared.clash.Clash.{Clash};
 ghost use Rattle.ras_closure.specs.Numbered.{IsAt, IsTable};
 ghost use Rattle.ras_closure.specs.Classes.{class};
-ghost use Rattle.ras_closure.specs.Closures.{ClosureParts, IsClosure, AreOfOneSort, AddsFact, IsNo, IsFactOf, AreTogetherIn, FactsClashIn, HasNoModel, NamesConflict, IsModelOf};
+ghost use Rattle.ras_closure.specs.Closures.{ClosureParts, IsClosure, AreOfOneSort, AddsFact, IsNo, IsFactOf, AreTogetherIn, FactsClashIn, HasNoModel, NamesConflict, IsModelOf, IsSmallFor};
 
 use crate::clash::Clash;
 use crate::classes::Classes;
 use crate::marks::Marks;
+use crate::model::{self, model_of};
 use crate::saturation::{saturate, unite};
 use crate::signatures::Signatures;
+use crate::steps::Steps;
 use crate::table::TermTable;
 use crate::term_no::TermNo;
 use ras_logic::{Problem, Shape, Term};
@@ -27,6 +29,7 @@ pub struct Closure {
     classes: Classes,
     signatures: Signatures,
     clash: Option<Clash>,
+    steps: Steps,
 }
 
 impl Model for Closure {
@@ -57,13 +60,22 @@ impl Closure {
         let marks = Marks::new(alloc, terms)?;
         let mut classes = Classes::new(alloc, terms)?;
         let mut signatures = Signatures::new(alloc, table.function_count(), terms)?;
-        let clash = saturate(&table, &marks, &mut classes, &mut signatures, None);
+        let mut steps = Steps { entries: 0 };
+        let clash = saturate(
+            &table,
+            &marks,
+            &mut classes,
+            &mut signatures,
+            &mut steps,
+            None,
+        );
         Ok(Closure {
             table,
             marks,
             classes,
             signatures,
             clash,
+            steps,
         })
     }
 
@@ -81,6 +93,7 @@ impl Closure {
             classes,
             signatures,
             clash: self.clash,
+            steps: self.steps,
         })
     }
 
@@ -96,6 +109,7 @@ impl Closure {
     pub fn term(&self, term: &Term) -> Option<TermNo>
         ensures known { IsSome result ↔ IsTerm self.now.table.shape.schema self.now.table.problem.literals term.now }
         ensures number { IfSome result (λ no. IsAt self.now.table.terms no.n term.now) }
+        ensures within { IfSome result (IsNo self.now) }
     {
         self.table.known();
         let i = self.table.find(term)?;
@@ -160,6 +174,7 @@ impl Closure {
             &self.marks,
             &mut self.classes,
             &mut self.signatures,
+            &mut self.steps,
             left.n as usize,
             right.n as usize,
         );
@@ -192,6 +207,12 @@ impl Closure {
             return Err(clash);
         }
         Ok(())
+    }
+
+    /// How many entries of its tables the closure has looked at.
+    #[cfg(test)]
+    pub fn steps(&self) -> u64 {
+        self.steps.entries
     }
 
     /// Asserts that two terms of one sort are the same. A clash comes exactly where nothing satisfies what was asserted;
@@ -230,5 +251,17 @@ impl Closure {
         let answer = self.note_apart(left, right);
         self.known();
         answer
+    }
+
+    /// A small model of what was asserted: one element for each class of its sort other than undef's, and one more in a
+    /// sort where an image under a total function is missing.
+    pub fn model(&self, alloc: Global) -> Result<model::Model, AllocError>
+        requires { self.now.clash ≡ None }
+        ensures model { IfOk result (λ m. IsModelOf self.now m.db m.values) }
+        ensures small { IfOk result (λ m. IsSmallFor self.now m.db m.values) }
+    {
+        self.table.known();
+        let model = model_of(alloc, &self.table, &self.classes)?;
+        Ok(model)
     }
 }

@@ -5,6 +5,7 @@ ghost use Rattle.ras_closure.specs.Saturation.{ArePartial, AreTogether, AreUnbro
 use crate::clash::Clash;
 use crate::classes::Classes;
 use crate::marks::Marks;
+use crate::steps::Steps;
 use crate::table::TermTable;
 
 /// The term and one of the class that were asserted apart.
@@ -49,6 +50,7 @@ fn breaking(
     table: &TermTable,
     marks: &Marks,
     classes: &Classes,
+    steps: &mut Steps,
     to: u32,
     from: u32,
 ) -> Option<Clash>
@@ -59,7 +61,11 @@ fn breaking(
     if (from as usize) < table.rigid_count() {
         return Some(Clash::between(to as usize, from as usize));
     }
-    if classes.size(to) < classes.size(from) {
+    let to_size = classes.size(to);
+    let from_size = classes.size(from);
+    let terms = table.len();
+    steps.add(terms.saturating_mul(to_size.min(from_size).saturating_add(3)));
+    if to_size < from_size {
         parted(marks, classes, to, from)
     } else {
         parted(marks, classes, from, to)
@@ -71,6 +77,7 @@ pub fn merge(
     table: &TermTable,
     marks: &Marks,
     classes: &mut Classes,
+    steps: &mut Steps,
     left: usize,
     right: usize,
 ) -> Option<Clash>
@@ -91,7 +98,8 @@ pub fn merge(
     let right_class = classes.of(right);
     let to = left_class.min(right_class);
     let from = left_class.max(right_class);
-    let clash = breaking(table, marks, classes, to, from);
+    let clash = breaking(table, marks, classes, steps, to, from);
+    steps.add(table.len());
     classes.relabel(from, to);
     clash
 }

@@ -10,6 +10,7 @@ use crate::marks::Marks;
 use crate::merging::merge;
 use crate::pair::Pair;
 use crate::signatures::Signatures;
+use crate::steps::Steps;
 use crate::table::TermTable;
 use ras_logic::FunId;
 
@@ -151,6 +152,7 @@ pub fn saturate(
     marks: &Marks,
     classes: &mut Classes,
     signatures: &mut Signatures,
+    steps: &mut Steps,
     before: Option<Clash>,
 ) -> Option<Clash>
     requires marks_width { marks.now.width ≡ length table.now.terms }
@@ -165,9 +167,11 @@ pub fn saturate(
 {
     table.known();
     let mut clash = before;
+    steps.add(table.len());
     while let Some(pair) = forced_pair(table, classes, signatures) {
-        let found = merge(table, marks, classes, pair.left, pair.right);
+        let found = merge(table, marks, classes, steps, pair.left, pair.right);
         clash = clash.or(found);
+        steps.add(table.len());
     }
     clash
 }
@@ -177,6 +181,7 @@ fn join(
     table: &TermTable,
     marks: &Marks,
     classes: &mut Classes,
+    steps: &mut Steps,
     left: usize,
     right: usize,
 ) -> Option<Clash>
@@ -194,7 +199,7 @@ fn join(
     if classes.of(left) == classes.of(right) {
         return None;
     }
-    merge(table, marks, classes, left, right)
+    merge(table, marks, classes, steps, left, right)
 }
 
 /// Puts two terms in one class, with all that follows; and what speaks against it, the first that was found.
@@ -203,6 +208,7 @@ pub fn unite(
     marks: &Marks,
     classes: &mut Classes,
     signatures: &mut Signatures,
+    steps: &mut Steps,
     left: usize,
     right: usize,
 ) -> Option<Clash>
@@ -220,6 +226,6 @@ pub fn unite(
     ensures width { signatures.new.width ≡ signatures.old.width }
     ensures functions { signatures.new.functions ≡ signatures.old.functions }
 {
-    let clash = join(table, marks, classes, left, right);
-    saturate(table, marks, classes, signatures, clash)
+    let clash = join(table, marks, classes, steps, left, right);
+    saturate(table, marks, classes, signatures, steps, clash)
 }

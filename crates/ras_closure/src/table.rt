@@ -1,4 +1,4 @@
-ghost use Rattle.std.specs.Prelude.{◌≡◌, ℕ, ◌+◌, ◌<◌, length, slice_get, Some, MatchOption, IfOk, All};
+ghost use Rattle.std.specs.Prelude.{◌≡◌, ◌≤◌, ℕ, ◌+◌, ◌<◌, length, slice_get, Some, MatchOption, IfOk, All};
 ghost use Rattle.ras_logic.specs.Formulas.{Fits};
 ghost use Rattle.ras_logic.specs.Terms.{sort_of as the_sort};
 ghost use Rattle.ras_logic.specs.declared.term.Term.{Term};
@@ -130,6 +130,20 @@ impl TermTable {
         self.problem.params.as_slice()
     }
 
+    pub fn var_count(&self) -> usize
+        ensures count { result ≡ length self.now.shape.vars }
+        ensures few { result ≤ 4294967295 }
+    {
+        self.shape.var_count() as usize
+    }
+
+    pub fn param_count(&self) -> usize
+        ensures count { result ≡ length self.now.problem.params }
+        ensures few { result ≤ 4294967295 }
+    {
+        self.problem.params.len()
+    }
+
     /// The term of a number.
     pub fn term(&self, term: usize) -> &Term
         requires { term < length self.now.terms }
@@ -150,7 +164,8 @@ impl TermTable {
     /// The sort of a term.
     pub fn sort(&self, term: usize) -> SortId
         requires { term < length self.now.terms }
-        ensures { (t : Term) → IsAt self.now.terms term t → the_sort self.now.shape self.now.problem.rows self.now.problem.params t ≡ Some result }
+        ensures is_sort { (t : Term) → IsAt self.now.terms term t → the_sort self.now.shape self.now.problem.rows self.now.problem.params t ≡ Some result }
+        ensures exists { result.n < self.now.shape.schema.sorts }
     {
         self.known();
         let found = sort_of(self.shape(), self.rows(), self.params(), self.term(term));

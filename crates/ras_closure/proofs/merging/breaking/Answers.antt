@@ -3,12 +3,12 @@ use Rattle.ras_closure.specs.Numbered.{rigid_count}
 use Rattle.ras_closure.proofs.Verdicts.{looked_forth, looked_back}
 use Rattle.ras_closure.proofs.merging.breaking.Goals as goal
 
-pub returns-then-size : goal.returns-then-size
-returns-then-size c =
+pub returns-then-to_size-from_size : goal.returns-then-to_size-from_size
+returns-then-to_size-from_size c =
     let above : rigid_count c.args.table.now ≤ c.args.from = omega (arith, c.rigid_count.ensures) in
     looked_forth c.args.table.now c.args.marks.now c.args.classes.now c.args.to c.args.from above c.parted.result c.parted.ensures
 
-pub returns-else-size : goal.returns-else-size
-returns-else-size c =
+pub returns-else-to_size-from_size : goal.returns-else-to_size-from_size
+returns-else-to_size-from_size c =
     let above : rigid_count c.args.table.now ≤ c.args.from = omega (arith, c.rigid_count.ensures) in
-    looked_back c.args.table.now c.args.marks.now c.args.classes.now c.args.to c.args.from above c.parted-else-size.result c.parted-else-size.ensures
+    looked_back c.args.table.now c.args.marks.now c.args.classes.now c.args.to c.args.from above c.parted-else-to_size-from_size.result c.parted-else-to_size-from_size.ensures

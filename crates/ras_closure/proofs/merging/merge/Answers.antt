@@ -1,7 +1,7 @@
 use Rattle.std.proofs.Common.{◌≡◌, ℕ, List, subst, sym}
 use Rattle.std.specs.Prelude.{min, max}
 use Rattle.ras_closure.specs.Classes.{class}
-use Rattle.ras_closure.proofs.Steps.{IsMerged, merging, merged-answer}
+use Rattle.ras_closure.proofs.Merges.{IsMerged, merging, merged-answer}
 use Rattle.ras_closure.proofs.merging.merge.Goals as goal
 
 pub returns : goal.returns

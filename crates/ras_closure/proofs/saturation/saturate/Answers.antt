@@ -1,5 +1,5 @@
 use Rattle.std.proofs.Common.{◌∙◌, sym}
-use Rattle.ras_closure.proofs.Steps.{forced-together, coarsens-through, are-below}
+use Rattle.ras_closure.proofs.Merges.{forced-together, coarsens-through, are-below}
 use Rattle.ras_closure.proofs.Verdicts.{verdict-or}
 use Rattle.ras_closure.proofs.saturation.saturate.Goals as goal
 

@@ -1,5 +1,5 @@
 use Rattle.std.proofs.Common.{◌∙◌, sym}
-use Rattle.ras_closure.proofs.Steps.{coarsens-through}
+use Rattle.ras_closure.proofs.Merges.{coarsens-through}
 use Rattle.ras_closure.proofs.saturation.unite.Goals as goal
 
 pub returns : goal.returns

@@ -15,14 +15,14 @@ use Rattle.ras_logic.specs.Terms.{sort_of, constant_term, undef_term, image_term
 use Rattle.ras_logic.proofs.TermSorts.{undef-sort}
 use Rattle.ras_closure.specs.declared.link.Link.{Link}
 use Rattle.ras_closure.specs.declared.link.Link.TheVariants.{Base, Image}
-use Rattle.ras_logic.specs.Clashes.{Together, Clash, back, through, stated, same_images, image_of_undef, only_undef, stated_apart, two_constants, constant_undef}
+use Rattle.ras_logic.specs.Clashes.{Together, Clash, symmetric, transitive, stated, same_images, image_of_undef, only_undef, stated_apart, two_constants, constant_undef}
 use Rattle.ras_closure.specs.Classes.{class, AreClosed, Coarsens, relabelled}
 use Rattle.ras_closure.specs.Numbered.{IsAt, TableParts, IsImageLink, IsTable, rigid_count}
 use Rattle.ras_closure.specs.Assertions.{MarkParts, IsAsserted, is_marked, FactsFit}
 use Rattle.ras_closure.specs.Saturation.{Forced, by_images, by_undef, by_total, IsSaturated, AreBelow, ArePartial, AreTogether, AreClashing, AreUnbroken, MayMerge, AreBreaking}
 use Rattle.ras_closure.specs.declared.clash.Clash as Named
 use Rattle.ras_closure.specs.Closures.{Conflict, asserted_apart, constants, constant_and_undef, undef_and_constant}
-use Rattle.ras_closure.proofs.Sorting.{from_known, HasSort, term-sorted, together-sorted}
+use Rattle.ras_closure.proofs.Sorting.{from_known, HasSort, sort-within, term-sorted, together-sorted}
 
 pub coarsens-through : (old mid new : List ℕ) → length mid ≡ length old → Coarsens old mid → Coarsens mid new → Coarsens old new
 coarsens-through old mid new long first second i j lt_i lt_j e = second i j (rw long lt_i) (rw long lt_j) (first i j lt_i lt_j e)
@@ -131,6 +131,10 @@ module _ (t : TableParts) (table : IsTable t) where
 pub table-sorted : (t : TableParts) → IsTable t → (i : ℕ) (s : Term) → IsAt t.terms i s → HasSort t.shape t.problem.rows t.problem.params s
 table-sorted t table i s at = term-sorted t.shape t.problem.rows t.problem.params t.problem.literals table.fits.literals (table.terms.known i s at)
 
+-- the sort of a term exists
+pub sort-exists : (t : TableParts) → IsTable t → (s : Term) (u : SortId) → sort_of t.shape t.problem.rows t.problem.params s ≡ Some u → u.n < t.shape.schema.sorts
+sort-exists t table s u h = sort-within t.shape t.problem.rows t.problem.params table.shape.schema table.shape.vars table.shape.columns table.fits.params s u h
+
 pub not_unsorted : (t : TableParts) → IsTable t → (i : ℕ) (s : Term) → IsAt t.terms i s → None ≡ sort_of t.shape t.problem.rows t.problem.params s → ⊥
 not_unsorted t table i s at e = let h = table-sorted t table i s at in none_some h.sort (e ∙ h.is_sort)
   where
@@ -169,7 +173,7 @@ module _ (t : TableParts) (table : IsTable t) (marks : MarkParts) (classes : Lis
   below i lt = omega (arith, lt, partial.low i lt)
 
   turned : (a b : ℕ) → AreTogether t marks a b → AreTogether t marks b a
-  turned a b h s u at_s at_u = back u s (h u s at_u at_s)
+  turned a b h s u at_s at_u = symmetric u s (h u s at_u at_s)
 
   -- terms of the classes of two terms that must be the same must be too
   pub class-together : (a b i j : ℕ) → a < length t.terms → b < length t.terms → AreTogether t marks a b → class classes i ≡ class classes a → class classes j ≡ class classes b
@@ -177,7 +181,7 @@ module _ (t : TableParts) (table : IsTable t) (marks : MarkParts) (classes : Lis
   class-together a b i j lt_a lt_b together one two s u at_s at_u =
       let ta = term_at t.terms a lt_a in
       let tb = term_at t.terms b lt_b in
-      through s ta.0 u (partial.sound i a s ta.0 at_s ta.1 one) (through ta.0 tb.0 u (together ta.0 tb.0 ta.1 tb.1) (partial.sound b j tb.0 u tb.1 at_u (sym two)))
+      transitive s ta.0 u (partial.sound i a s ta.0 at_s ta.1 one) (transitive ta.0 tb.0 u (together ta.0 tb.0 ta.1 tb.1) (partial.sound b j tb.0 u tb.1 at_u (sym two)))
 
   module _ (a b to from : ℕ) (lt_a : a < length t.terms) (lt_b : b < length t.terms) (together : AreTogether t marks a b) (class_a : class classes a ≡ to) (class_b : class classes b ≡ from)
       (less : to < from) where
@@ -382,4 +386,4 @@ pub conflict-clash : (schema : SchemaParts) (literals : List Literal) (IsFact : 
 conflict-clash schema literals IsFact together (asserted_apart s u fact) = stated_apart s u fact together
 conflict-clash schema literals IsFact together (constants a b differ) = two_constants a b differ together
 conflict-clash schema literals IsFact together (constant_and_undef a s) = constant_undef a s together
-conflict-clash schema literals IsFact together (undef_and_constant s a) = constant_undef a s (back (undef_term s) (constant_term a) together)
+conflict-clash schema literals IsFact together (undef_and_constant s a) = constant_undef a s (symmetric (undef_term s) (constant_term a) together)

@@ -1,0 +1,127 @@
+ghost use Rattle.std.specs.Prelude.{◌≡◌, ℕ, ◌+◌, ◌<◌, ◌≤◌, length, get_or, [], MatchOption, IfOk};
+ghost use Rattle.ras_logic.specs.declared.term.Base.TheVariants.{Cell};
+ghost use Rattle.ras_closure.specs.Models.{AreElementsOf, AreRowsWith, AreModelValues};
+ghost use Rattle.ras_closure.specs.ModelParts.{number, base_of, AreElementsTo};
+
+use crate::table::TermTable;
+use ras_logic::{Base, List, RelId, Values};
+use std::alloc::{AllocError, Global};
+
+/// Bases that are counted: the variables, the cells of a row, or the data parameters.
+#[derive(Clone, Copy, Debug)]
+pub enum Counted {
+    Vars,
+    Cells { row: usize },
+    Params,
+}
+
+/// Which of the counted bases a base is.
+fn index_of(counted: Counted, base: Base) -> Option<usize>
+    ensures { MatchOption result ((k : ℕ) → base ≡ base_of counted k → ⊥) (λ k. base ≡ base_of counted k) }
+{
+    match counted {
+        Counted::Vars => {
+            if let Base::Var(x) = base {
+                return Some(x.n as usize);
+            }
+            None
+        }
+        Counted::Cells { row } => {
+            if let Base::Cell { row: of, column } = base {
+                let of = of as usize;
+                if of == row {
+                    return Some(column as usize);
+                }
+            }
+            None
+        }
+        Counted::Params => {
+            if let Base::Param(p) = base {
+                return Some(p as usize);
+            }
+            None
+        }
+    }
+}
+
+/// Notes the element of a term that is one of the counted bases.
+fn note_element(
+    table: &TermTable,
+    numbers: &[u32],
+    counted: Counted,
+    elements: &mut [u32],
+    i: usize,
+)
+    requires long { length numbers.now ≡ length table.now.terms }
+    requires within { i < length table.now.terms }
+    requires elements { AreElementsTo table.now.terms numbers.now (base_of counted) (length elements.old) i elements.old }
+    ensures { AreElementsTo table.now.terms numbers.now (base_of counted) (length elements.old) (i + 1) elements.new }
+{
+    let term = table.term(i);
+    let functions = term.path.len();
+    if functions > 0 {
+        return;
+    }
+    let Some(k) = index_of(counted, term.base) else {
+        return;
+    };
+    if k >= elements.len() {
+        return;
+    }
+    elements[k] = numbers[i];
+}
+
+/// The elements of the first of the counted bases, undef where a base is no term.
+fn elements_of(
+    alloc: Global,
+    table: &TermTable,
+    numbers: &[u32],
+    counted: Counted,
+    count: usize,
+) -> Result<List<u32>, AllocError>
+    requires long { length numbers.now ≡ length table.now.terms }
+    requires few { count ≤ 4294967295 }
+    ensures { IfOk result (AreElementsOf table.now.terms (number numbers.now) (base_of counted) count) }
+{
+    let mut elements = vec![in alloc; 0; count]?;
+    for i in 0..table.len() {
+        note_element(table, numbers, counted, &mut elements, i);
+    }
+    Ok(List::from_vec(elements))
+}
+
+fn width_of(table: &TermTable, r: RelId) -> usize
+    ensures width { result ≡ length (get_or table.now.shape.relations r.n []) }
+    ensures few { result ≤ 4294967295 }
+{
+    match table.shape().relations().get(r.n as usize) {
+        Some(columns) => columns.len(),
+        None => 0,
+    }
+}
+
+fn rows(alloc: Global, table: &TermTable, numbers: &[u32]) -> Result<List<List<u32>>, AllocError>
+    requires { length numbers.now ≡ length table.now.terms }
+    ensures all { IfOk result (λ r. length r ≡ length table.now.problem.rows) }
+    ensures rows { IfOk result (AreRowsWith table.now.shape table.now.problem.rows table.now.terms (number numbers.now)) }
+{
+    let mut all = List::new(alloc);
+    let relations = table.rows();
+    for k in 0..relations.len() {
+        let columns = width_of(table, relations[k]);
+        let cells = elements_of(alloc, table, numbers, Counted::Cells { row: k }, columns)?;
+        all.push(cells)?;
+    }
+    Ok(all)
+}
+
+/// The values of the variables, rows and data parameters.
+pub fn values(alloc: Global, table: &TermTable, numbers: &[u32]) -> Result<Values, AllocError>
+    requires { length numbers.now ≡ length table.now.terms }
+    ensures { IfOk result (AreModelValues table.now.shape table.now.problem.rows table.now.problem.params table.now.terms (number numbers.now)) }
+{
+    let vars = elements_of(alloc, table, numbers, Counted::Vars, table.var_count())?;
+    let rows = rows(alloc, table, numbers)?;
+    let params = elements_of(alloc, table, numbers, Counted::Params, table.param_count())?;
+    Ok(Values { vars, rows, params })
+}
