@@ -1,30 +1,40 @@
-//! The program `rasprove`: the words of the command line come in, lines on the standard output and a status go out. No
-//! command is built yet, so all words are refused.
+//! The program `rasprove`: the words of the command line come in, and what `verify_quiet` writes and answers goes out, with the
+//! files of the file system and the standard output.
 #![tactic(auto)]
 
-ghost use Rattle.std.specs.Prelude.{◌≡◌, ◌⊎◌};
-ghost use Rattle.std.specs.Io.KnownBytes.{append_known};
-ghost use Rattle.ras_outside.specs.Count.{Rose};
-
-use ras_outside::{Sink, StdSink};
+use ras_cli::verify_quiet;
+use ras_outside::{DirShelf, StdSink};
+use std::alloc::AllocError;
 use std::process::ExitCode;
+use std::{env, io};
 
-// The refusal, and the usage lines of the commands that are built.
-const REFUSED_WORDS: &[u8] = b"REFUSED words\nusage:\n";
+/// The status where memory is wanting.
+const NO_MEMORY: u8 = 60;
 
-/// Refuses the words: status 40 with the refusal written, or status 51 where the sink failed.
-fn refuse_words<K: Sink>(out: &mut K) -> u8
-    ensures status { (result ≡ 40) ⊎ (result ≡ 51) }
-    ensures written { result ≡ 40 → K.written out.new ≡ append_known (K.written out.old) REFUSED_WORDS.now }
-    ensures failed { result ≡ 51 → Rose (K.faults out.old) (K.faults out.new) }
-{
-    match out.put(REFUSED_WORDS) {
-        Ok(()) => 40,
-        Err(_) => 51,
+/// The words after the program's name. Words of which one is no text are refused like no words.
+fn words(rt: HostRuntime) -> Result<Vec<String>, AllocError> {
+    let mut words = Vec::new(rt.alloc());
+    match env::args(&rt) {
+        Ok(all) => {
+            for word in all.skip(1) {
+                words.push(word)?;
+            }
+        }
+        Err(error) => {
+            if error.kind() == io::ErrorKind::OutOfMemory {
+                return Err(AllocError);
+            }
+        }
     }
+    Ok(words)
 }
 
 fn main(rt: HostRuntime) -> ExitCode {
+    let Ok(words) = words(rt) else {
+        return ExitCode::from(NO_MEMORY);
+    };
+    let mut shelf = DirShelf::new(rt);
     let mut out = StdSink::output(rt);
-    ExitCode::from(refuse_words(&mut out))
+    let status = verify_quiet(&rt, rt.alloc(), &words, &mut shelf, &mut out);
+    ExitCode::from(status)
 }

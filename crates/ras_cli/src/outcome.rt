@@ -1,0 +1,63 @@
+ghost use Rattle.std.specs.Prelude.{◌≡◌, ◌++◌, ◌∷◌, [], IfOk};
+ghost use Rattle.ras_cli.specs.Outcomes.{status_of, text_of};
+
+use std::alloc::{AllocError, Global};
+
+/// What came of the words.
+#[derive(Clone, Copy, Debug)]
+pub enum Outcome<'a> {
+    /// The evidence of the bundle is good.
+    Valid,
+    /// What was loaded is no bundle with a good evidence.
+    NoBundle,
+    /// The file is longer than its limit.
+    TooLong { name: &'a str },
+    /// The file could not be read.
+    NotRead { name: &'a str },
+    /// The words are of the form of no command.
+    NoCommand,
+}
+
+fn line(alloc: Global, words: &[u8]) -> Result<Vec<u8>, AllocError>
+    ensures { IfOk result (λ text. text.items ≡ words.now) }
+{
+    Vec::from_slice(alloc, words)
+}
+
+/// A line of some words and a name.
+fn line_with(alloc: Global, words: &[u8], name: &str) -> Result<Vec<u8>, AllocError>
+    ensures { IfOk result (λ text. text.items ≡ words.now ++ (name.now ++ 10 ∷ [])) }
+{
+    let mut text = Vec::from_slice(alloc, words)?;
+    text.extend_from_slice(name.as_bytes())?;
+    text.push(b'\n')?;
+    Ok(text)
+}
+
+impl<'a> Outcome<'a> {
+    /// The status with which the program ends.
+    pub fn status(&self) -> u8
+        ensures { result ≡ status_of self.now }
+    {
+        match self {
+            Outcome::Valid => 0,
+            Outcome::NoBundle => 30,
+            Outcome::TooLong { .. } => 32,
+            Outcome::NoCommand => 40,
+            Outcome::NotRead { .. } => 50,
+        }
+    }
+
+    /// The text that is written.
+    pub fn text(&self, alloc: Global) -> Result<Vec<u8>, AllocError>
+        ensures { IfOk result (λ text. text.items ≡ text_of self.now) }
+    {
+        match self {
+            Outcome::Valid => line(alloc, b"VALID SAFE\n"),
+            Outcome::NoBundle => line(alloc, b"REFUSED bundle\n"),
+            Outcome::TooLong { name } => line_with(alloc, b"REFUSED long ", name),
+            Outcome::NotRead { name } => line_with(alloc, b"REFUSED read ", name),
+            Outcome::NoCommand => line(alloc, b"REFUSED words\nusage:\n  rasprove check BUNDLE\n"),
+        }
+    }
+}

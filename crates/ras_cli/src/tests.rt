@@ -1,0 +1,195 @@
+ghost use Rattle.ras_outside.specs.Told.{untold};
+
+use crate::verify_quiet;
+use ras_outside::{LoadFault, MemShelf, MemSink, Shelf};
+use std::alloc::{AllocError, Global};
+use std::test::Fail;
+use std::thread::Threads;
+
+// One variable, which is never assigned, and the unsafe formula `x != undef`.
+const ONE_VARIABLE: &[u8] = b"bundle 1
+sorts 1
+functions 0
+consts 0
+variables 1
+variable 0 none
+transitions 0
+unsafe 1
+cube 0 1 v0!=u0
+evidence 1 safe
+formulas 1
+cube 0 1 v0!=u0
+trees 2
+tree leaf
+tree split 0 0 1 leaf
+end
+";
+
+// The same with a leaf in place of the last tree.
+const OPEN_GOAL: &[u8] = b"bundle 1
+sorts 1
+functions 0
+consts 0
+variables 1
+variable 0 none
+transitions 0
+unsafe 1
+cube 0 1 v0!=u0
+evidence 1 safe
+formulas 1
+cube 0 1 v0!=u0
+trees 2
+tree leaf
+tree leaf
+end
+";
+
+// Three constants, a variable that is the first of them, a step from the second to the third, and the third is unsafe.
+const ONE_STEP: &[u8] = b"bundle 1
+sorts 1
+functions 0
+consts 3 0 0 0
+variables 1
+variable 0 0
+transitions 1
+guard 1
+cube 0 1 v0=c1
+updates 1
+update 0 c2
+unsafe 1
+cube 0 1 v0=c2
+evidence 1 safe
+formulas 2
+cube 0 1 v0=c2
+cube 0 1 v0=c1
+trees 5
+tree leaf
+tree leaf
+tree split 0 0 1 leaf
+tree split 1 0 1 leaf
+tree leaf
+end
+";
+
+const USAGE: &[u8] = b"REFUSED words\nusage:\n  rasprove check BUNDLE\n";
+
+fn words_of(alloc: Global, words: &[&str]) -> Result<Vec<String>, AllocError> {
+    let mut all = Vec::new(alloc);
+    for word in words {
+        all.push(String::from_str(alloc, word)?)?;
+    }
+    Ok(all)
+}
+
+/// A shelf that holds one file, named `b`, and whose loads fail as listed.
+fn shelf_of(alloc: Global, content: &[u8], failing: &[u64]) -> Result<MemShelf, AllocError> {
+    let file = (
+        String::from_str(alloc, "b")?,
+        Vec::from_slice(alloc, content)?,
+    );
+    Ok(MemShelf::new(vec![in alloc; file]?, Vec::from_slice(alloc, failing)?))
+}
+
+/// Whether `check b` ends so over a file of this content.
+fn checks<R: Threads + Sync>(
+    rt: &R,
+    alloc: Global,
+    content: &[u8],
+    status: u8,
+    written: &[u8],
+) -> Result<bool, Fail> {
+    let words = words_of(alloc, &["check", "b"])?;
+    let mut shelf = shelf_of(alloc, content, &[])?;
+    let mut out = MemSink::new(alloc, 100, Vec::new(alloc))?;
+    let ended = verify_quiet(rt, alloc, &words, &mut shelf, &mut out);
+    Ok(ended == status && out.written() == written)
+}
+
+#[test]
+fn good_evidence_is_valid_and_all_else_is_refused(rt: HostRuntime) -> Result<(), Fail> {
+    let alloc = rt.alloc();
+    assert!(rt; checks(&rt, alloc, ONE_VARIABLE, 0, b"VALID SAFE\n")?);
+    assert!(rt; checks(&rt, alloc, ONE_STEP, 0, b"VALID SAFE\n")?);
+    for refused in [OPEN_GOAL, b"".as_slice(), b"bundle 1\n".as_slice()] {
+        assert!(rt; checks(&rt, alloc, refused, 30, b"REFUSED bundle\n")?);
+    }
+    Ok(())
+}
+
+#[test]
+fn words_of_no_command_are_refused_with_the_usage_lines(rt: HostRuntime) -> Result<(), Fail> {
+    let alloc = rt.alloc();
+    let none: &[&str] = &[];
+    let refused = [
+        none,
+        &["check"],
+        &["check", "a", "b"],
+        &["check", "-x"],
+        &["check", "-"],
+        &["verify", "b"],
+    ];
+    for words in refused {
+        let mut shelf = shelf_of(alloc, ONE_VARIABLE, &[])?;
+        let mut out = MemSink::new(alloc, 100, Vec::new(alloc))?;
+        let words = words_of(alloc, words)?;
+        assert_eq!(rt; verify_quiet(&rt, alloc, &words, &mut shelf, &mut out), 40);
+        assert_eq!(rt; out.written(), USAGE);
+    }
+    Ok(())
+}
+
+/// A shelf that tells nothing, and on which every file is too long.
+#[derive(Drop)]
+struct LongShelf;
+
+impl Shelf for LongShelf {
+    ghost told = { λ _ _. untold };
+
+    ghost faults = { λ _ _. 0 };
+
+    fn load(&mut self, _alloc: Global, _name: &str, _most: u64) -> Result<Vec<u8>, LoadFault> {
+        Err(LoadFault::TooLong)
+    }
+}
+
+#[test]
+fn a_load_that_fails_or_is_too_long_is_told_with_the_name(rt: HostRuntime) -> Result<(), Fail> {
+    let alloc = rt.alloc();
+    let words = words_of(alloc, &["check", "b"])?;
+    let mut failing = shelf_of(alloc, ONE_VARIABLE, &[1])?;
+    let mut out = MemSink::new(alloc, 100, Vec::new(alloc))?;
+    assert_eq!(rt;
+        verify_quiet(&rt, alloc, &words, &mut failing, &mut out),
+        50
+    );
+    assert_eq!(rt;
+        verify_quiet(&rt, alloc, &words, &mut LongShelf, &mut out),
+        32
+    );
+    assert_eq!(rt;
+        out.written(),
+        b"REFUSED read b\nREFUSED long b\n".as_slice()
+    );
+    Ok(())
+}
+
+#[test]
+fn a_put_that_fails_leaves_a_front_of_the_text(rt: HostRuntime) -> Result<(), Fail> {
+    let alloc = rt.alloc();
+    let words = words_of(alloc, &["check", "b"])?;
+    let mut shelf = shelf_of(alloc, ONE_VARIABLE, &[])?;
+    let mut out = MemSink::new(alloc, 100, vec![in alloc; (1, 3)]?)?;
+    assert_eq!(rt; verify_quiet(&rt, alloc, &words, &mut shelf, &mut out), 51);
+    assert_eq!(rt; out.written(), b"VAL".as_slice());
+
+    // A text of 5,014 bytes is put in two pieces, of which the second fails after ten bytes.
+    let mut name = String::new(alloc);
+    for _ in 0..5_000 {
+        name.push('n')?;
+    }
+    let words = vec![in alloc; String::from_str(alloc, "check")?, name]?;
+    let mut out = MemSink::new(alloc, 5_014, vec![in alloc; (2, 10)]?)?;
+    assert_eq!(rt; verify_quiet(&rt, alloc, &words, &mut shelf, &mut out), 51);
+    assert_eq!(rt; out.written().len(), 4_106);
+    Ok(())
+}
