@@ -1,6 +1,7 @@
 -- What the facts and the rules ask of the classes.
-use Rattle.std.proofs.Common.{◌≡◌, ℕ, zero, suc, ◌<◌, List, [], ◌∷◌, length, get_or, refl, ap, subst, arith}
+use Rattle.std.proofs.Common.{◌≡◌, ℕ, zero, suc, ◌<◌, List, [], ◌∷◌, length, get_or, refl, ap, subst, arith, true}
 use Rattle.std.specs.Prelude.{slice_get, Some}
+use Rattle.std.proofs.lemmas.Bool.{eq-eqb}
 use Rattle.std.proofs.lemmas.Option.{none-some, same_Some, slice_get_within, slice_get-get_or}
 use Rattle.ras_logic.specs.declared.ids.SortId.{SortId}
 use Rattle.ras_logic.specs.declared.term.Base.TheVariants.{Undef}
@@ -10,6 +11,9 @@ use Rattle.ras_refute.specs.declared.entry.Entry.{Entry}
 use Rattle.ras_refute.specs.declared.entry.Entry.TheVariants.{Root}
 use Rattle.ras_refute.specs.declared.entry.Pair.{Pair}
 use Rattle.ras_refute.specs.Tables.{terms_of, AreSidesOf, AreAllSides, HasUndefs}
+use Rattle.ras_logic.specs.Schemas.{SchemaParts}
+use Rattle.ras_refute.specs.declared.table.Table.{Table}
+use Rattle.ras_refute.specs.Classes.{class, IsUnmet, IsDue, by_fact}
 use Rattle.ras_refute.proofs.Entries.{length-terms_of}
 
 -- the undef of a sort is in the table
@@ -56,3 +60,15 @@ sides-read es facts sides items k numbers e lt =
     let at : slice_get sides k ≡ Some pair = rw e (slice_get-get_or sides k (record { left = 0; right = 0 }) (omega (arith, lt, length-sides es facts sides numbers))) in
     let within = pair-within es facts sides numbers k pair at in
     record { at = at; left = within.0; right = within.1 }
+
+-- the sides of a fact that says the same belong in one class
+pub unmet-due : (schema : SchemaParts) (facts : List Literal) (t : Table) (classes : List ℕ) (pair : Pair) → AreAllSides t.entries facts t.sides
+    → IsUnmet facts t.sides classes true pair → IsDue schema facts t classes pair
+unmet-due schema facts t classes pair numbers unmet =
+    let within = pair-within t.entries facts t.sides numbers unmet.place pair unmet.numbers in
+    record {
+      due = by_fact unmet.place unmet.fact pair unmet.known unmet.numbers unmet.says;
+      differ = λ e. absurd (cc (eq-eqb (class classes pair.left) (class classes pair.right) e, unmet.differ));
+      left = within.0;
+      right = within.1;
+    }

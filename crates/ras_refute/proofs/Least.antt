@@ -1,6 +1,7 @@
 -- Classes of which no fact and no rule asks for more have together what the least relation has.
 use Rattle.std.proofs.Common.{◌≡◌, ℕ, true, List, [], ◌∷◌, ◌++◌, refl, sym, ◌∙◌, ap, subst, arith, ⊎_elim, append_assoc, get_or}
 use Rattle.std.specs.Prelude.{slice_get, Some, Contains}
+use Rattle.std.proofs.lemmas.Bool.{eqb-true}
 use Rattle.std.proofs.lemmas.Option.{slice_get-get_or}
 use Rattle.std.proofs.lemmas.List.{append-nil}
 use Rattle.ras_logic.specs.declared.ids.FunId.{FunId}
@@ -81,7 +82,7 @@ module _ (schema : SchemaParts) (ok : IsSchema schema) (facts : List Literal) (t
         let number : slice_get t.sides inside.0 ≡ Some pair =
         slice_get-get_or t.sides inside.0 (record { left = 0; right = 0 }) (omega (arith, inside.1, length-sides t.entries facts t.sides table.numbers)) in
         let at = sides-at t.entries facts t.sides table.numbers inside.0 fact pair known number in
-        record { i = pair.left; j = pair.right; left = at.0; right = at.1; same = closed.stated inside.0 fact pair known number refl }
+        record { i = pair.left; j = pair.right; left = at.0; right = at.1; same = eqb-true (class classes pair.left) (class classes pair.right) (closed.stated inside.0 fact pair known number refl) }
 
     alike_images : (s u : Term) (f : FunId) → Alike s u → (i : ℕ) × IsAt t.entries i (image_term s f) → (i : ℕ) × IsAt t.entries i (image_term u f) → Alike (image_term s f) (image_term u f)
     alike_images s u f a k l =

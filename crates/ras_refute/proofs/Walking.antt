@@ -2,6 +2,7 @@
 use Rattle.std.proofs.Common.{◌≡◌, ℕ, ◌+◌, ◌<◌, ◌≤◌, ◌^◌, List, [], ◌∷◌, ◌++◌, length, get_or, take, drop, reverse, refl, sym, ◌∙◌, ap, subst, arith}
 use Rattle.std.specs.Prelude.{All, Result, Ok, Err, IfErr, IsErrAnd}
 use Rattle.std.proofs.lemmas.List.{reverse-append, take-append-le, take_at, length-take-le, length_push, length-append, drop_more, drop_all, take_all}
+use Rattle.std.proofs.lemmas.Option.{get_or_from_slice_get}
 use Rattle.ras_logic.specs.declared.literal.Literal.{Literal}
 use Rattle.ras_logic.specs.Formulas.{negated, replace}
 use Rattle.ras_logic.specs.Refutations.{chosen_row, children_facts}
@@ -18,7 +19,7 @@ use Rattle.ras_refute.specs.declared.tree_fault.TreeKind.TheVariants as kind
 use Rattle.ras_refute.specs.declared.tree_fault.CloseError.{CloseError}
 use Rattle.ras_refute.specs.declared.tree_fault.CloseError.TheVariants.{Fault, Memory}
 use Rattle.ras_refute.specs.Faults.{IsNodeFault, IsGood, OnFault}
-use Rattle.ras_refute.specs.Walks.{waiting, AreOpen, StandsBefore, Passes}
+use Rattle.ras_refute.specs.Walks.{waiting, AreOpen, EntersCase, StandsBefore, Passes}
 
 pub reverse-push : {X : Type 0} (xs : List X) (x : X) → reverse (xs ++ x ∷ []) ≡ x ∷ reverse xs
 reverse-push xs x = reverse-append xs (x ∷ [])
@@ -48,7 +49,7 @@ module _ (facts : List Literal) (c : Cases) (below : List Cases) (are : AreOpen 
   stays = take_at (take c.above facts) (fact_of_case c l ∷ []) c.above (length-take-le c.above facts are.0)
 
   -- the split has more cases
-  pub case-more : (next : ℕ) (splits : List Cases) → next ≡ c.next + 1 → next < length c.literals.now → reverse splits ≡ record c { next = next } ∷ below
+  case-more : (next : ℕ) (splits : List Cases) → next ≡ c.next + 1 → next < length c.literals.now → reverse splits ≡ record c { next = next } ∷ below
       → StandsBefore (waiting facts (c ∷ below)) (take c.above facts ++ fact_of_case c l ∷ []) splits
   case-more next splits e lt is_reverse =
       subst (λ (p : List (List Literal)). StandsBefore p (take c.above facts ++ fact_of_case c l ∷ []) splits) (sym first_case) (
@@ -61,7 +62,7 @@ module _ (facts : List Literal) (c : Cases) (below : List Cases) (are : AreOpen 
       )
 
   -- it was the split's last case
-  pub case-last : (splits : List Cases) → length c.literals.now ≤ c.next + 1 → reverse splits ≡ below → StandsBefore (waiting facts (c ∷ below)) (take c.above facts ++ fact_of_case c l ∷ []) splits
+  case-last : (splits : List Cases) → length c.literals.now ≤ c.next + 1 → reverse splits ≡ below → StandsBefore (waiting facts (c ∷ below)) (take c.above facts ++ fact_of_case c l ∷ []) splits
   case-last splits le is_reverse =
       subst (λ (p : List (List Literal)). StandsBefore p (take c.above facts ++ fact_of_case c l ∷ []) splits) (sym first_case) (
         refl,
@@ -69,6 +70,27 @@ module _ (facts : List Literal) (c : Cases) (below : List Cases) (are : AreOpen 
             ∙ sym (waiting-kept (take c.above facts) (fact_of_case c l ∷ []) below are.3) ∙ sym (ap (waiting (take c.above facts ++ fact_of_case c l ∷ [])) is_reverse),
         subst (AreOpen (take c.above facts ++ fact_of_case c l ∷ [])) (sym is_reverse) (open-kept (take c.above facts) (fact_of_case c l ∷ []) below are.3),
       )
+
+-- the last split, whose next case is entered
+module _ (facts : List Literal) (splits rest : List Cases) (c : Cases) (last : splits ≡ rest ++ c ∷ []) (are : AreOpen facts (reverse splits)) where
+  top : reverse splits ≡ c ∷ reverse rest
+  top = ap reverse last ∙ reverse-push rest c
+
+  pub last-open : AreOpen facts (c ∷ reverse rest)
+  last-open = subst (AreOpen facts) top are
+
+  module _ (after : List Literal) (enters : EntersCase c facts after) where
+    first_literal : enters.literal ≡ get_or c.literals.now c.next enters.literal
+    first_literal = sym (get_or_from_slice_get c.literals.now c.next enters.literal enters.literal enters.known)
+
+    pub next-more : (next : ℕ) (left : List Cases) → next ≡ c.next + 1 → next < length c.literals.now → left ≡ rest ++ record c { next = next } ∷ []
+        → StandsBefore (waiting facts (reverse splits)) after left
+    next-more next left e lt pushed =
+        rw (top, enters.facts)
+        (case-more facts c (reverse rest) last-open enters.literal first_literal next left e lt (ap reverse pushed ∙ reverse-push rest (record c { next = next })))
+
+    pub next-last : length c.literals.now ≤ c.next + 1 → StandsBefore (waiting facts (reverse splits)) after rest
+    next-last le = rw (top, enters.facts) (case-last facts c (reverse rest) last-open enters.literal first_literal rest le refl)
 
 -- a split opens
 pub split-opens : (facts literals : List Literal) (rows : List ℕ) (splits : List Cases) (c : Cases) → c.above ≡ length facts → c.next ≡ 0 → literals ≡ c.literals.now → rows ≡ c.rows.now

@@ -5,8 +5,7 @@ use Rattle.ras_logic.specs.declared.literal.Literal.{Literal}
 use Rattle.ras_refute.specs.declared.entry.Entry.{Entry}
 use Rattle.ras_refute.specs.declared.entry.Entry.TheVariants.{Root}
 use Rattle.ras_refute.specs.declared.entry.Pair.{Pair}
-use Rattle.ras_refute.specs.Sides.{same_of}
-use Rattle.ras_refute.specs.Classes.{class}
+use Rattle.ras_refute.specs.Classes.{class, IsUnmet}
 
 -- different constants, or a constant and undef
 abbrev pub AreOpposed : Entry → Entry → Type 0
@@ -15,14 +14,8 @@ AreOpposed (Root (Constant c)) (Root (Undef s)) = Unit {0}
 AreOpposed _ _ = ⊥
 
 -- both sides of a fact that says not same are in one class
-pub record HasBroken (facts : List Literal) (sides : List Pair) (classes : List ℕ) : Type 0 where
-  pub place : ℕ
-  pub fact : Literal
-  pub pair : Pair
-  pub known : slice_get facts place ≡ Some fact
-  pub numbers : slice_get sides place ≡ Some pair
-  pub apart : same_of fact ≡ false
-  pub together : class classes pair.left ≡ class classes pair.right
+abbrev pub HasBroken : List Literal → List Pair → List ℕ → Type 0
+HasBroken facts sides classes = (pair : Pair) × IsUnmet facts sides classes false pair
 
 -- the entry's class has one that it is opposed to
 pub record HasOpposedAt (es : List Entry) (classes : List ℕ) (i : ℕ) : Type 0 where

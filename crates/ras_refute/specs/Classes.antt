@@ -1,5 +1,5 @@
 -- Classes of the terms of a table, and what the facts and the rules ask of them.
-use Rattle.std.specs.Prelude.{◌≡◌, ◌≢◌, ℕ, ◌<◌, ◌⊎◌, true, List, length, get_or, slice_get, Some, sum, map, nat_eq, Contains, if◌then◌else◌}
+use Rattle.std.specs.Prelude.{◌≡◌, ◌≢◌, ℕ, ◌<◌, ◌⊎◌, Bool, true, not, List, length, get_or, slice_get, Some, sum, map, nat_eq, Contains, if◌then◌else◌}
 use Rattle.ras_logic.specs.declared.ids.FunId.{FunId}
 use Rattle.ras_logic.specs.declared.function.FunDecl.{FunDecl}
 use Rattle.ras_logic.specs.declared.term.Term.{Term}
@@ -35,10 +35,19 @@ pub record Unites (old new : List ℕ) (a b : ℕ) : Type 0 where
 abbrev pub IsImage : List Entry → ℕ → ℕ → FunId → Type 0
 IsImage es i of f = slice_get es i ≡ Some (Image of f)
 
--- the sides that a fact says to be the same are in one class
-abbrev pub MeetFacts : List Literal → List Pair → List ℕ → Type 0
-MeetFacts facts sides classes = (k : ℕ) (fact : Literal) (pair : Pair) → slice_get facts k ≡ Some fact → slice_get sides k ≡ Some pair → same_of fact ≡ true
-    → class classes pair.left ≡ class classes pair.right
+-- the sides of the facts that say this, the same or not the same, are in one class or not as they say
+abbrev pub MeetFacts : List Literal → List Pair → List ℕ → Bool → Type 0
+MeetFacts facts sides classes same = (k : ℕ) (fact : Literal) (pair : Pair) → slice_get facts k ≡ Some fact → slice_get sides k ≡ Some pair → same_of fact ≡ same
+    → nat_eq (class classes pair.left) (class classes pair.right) ≡ same
+
+-- the sides of a fact that says this are in one class or not, and not as it says
+pub record IsUnmet (facts : List Literal) (sides : List Pair) (classes : List ℕ) (same : Bool) (pair : Pair) : Type 0 where
+  pub place : ℕ
+  pub fact : Literal
+  pub known : slice_get facts place ≡ Some fact
+  pub numbers : slice_get sides place ≡ Some pair
+  pub says : same_of fact ≡ same
+  pub differ : nat_eq (class classes pair.left) (class classes pair.right) ≡ not same
 
 -- the images by one function of terms of one class are in one class
 abbrev pub MeetImages : List Entry → List ℕ → ℕ → ℕ → FunId → Type 0
@@ -55,7 +64,7 @@ MeetRulesAt schema es classes i = (of : ℕ) (f : FunId) → IsImage es i of f �
 
 -- no fact and no rule asks for more
 pub record AreClosed (schema : SchemaParts) (facts : List Literal) (t : Table) (classes : List ℕ) : Type 0 where
-  pub stated : MeetFacts facts t.sides classes
+  pub stated : MeetFacts facts t.sides classes true
   pub rules : (i : ℕ) → i < length t.entries → MeetRulesAt schema t.entries classes i
 
 -- the image by the same function of a term of the same class, in another class

@@ -1,11 +1,12 @@
 -- How far a walk over the nodes of a tree has come.
-use Rattle.std.specs.Prelude.{◌≡◌, ◌<◌, ◌≤◌, ◌^◌, List, [], ◌∷◌, ◌++◌, length, take, drop, reverse, All, ⊤}
+use Rattle.std.specs.Prelude.{◌≡◌, ◌<◌, ◌≤◌, ◌^◌, List, [], ◌∷◌, ◌++◌, length, take, drop, reverse, slice_get, Some, All, ⊤}
 use Rattle.ras_logic.specs.declared.ids.RelId.{RelId}
 use Rattle.ras_logic.specs.declared.literal.Literal.{Literal}
 use Rattle.ras_logic.specs.declared.problem.Problem.{Problem}
 use Rattle.ras_logic.specs.declared.tree.Node.{Node}
 use Rattle.ras_logic.specs.Schemas.{SchemaParts}
-use Rattle.ras_logic.specs.Refutations.{children_facts}
+use Rattle.ras_logic.specs.Formulas.{negated, replace}
+use Rattle.ras_logic.specs.Refutations.{chosen_row, children_facts}
 use Rattle.ras_refute.specs.declared.cases.Cases.{Cases}
 use Rattle.ras_refute.specs.Faults.{IsGood}
 
@@ -22,6 +23,12 @@ waiting facts (c ∷ splits) = left_of_split facts c ++ waiting (take c.above fa
 abbrev pub AreOpen : List Literal → List Cases → Type 0
 AreOpen facts [] = ⊤
 AreOpen facts (c ∷ splits) = (c.above ≤ length facts) × (c.next < length c.literals.now) × All (λ k. k < 2 ^ 16) c.rows.now × AreOpen (take c.above facts) splits
+
+-- the facts of the next case of a split: those above the split, and the negation of the case's literal
+pub record EntersCase (c : Cases) (old new : List Literal) : Type 0 where
+  pub literal : Literal
+  pub known : slice_get c.literals.now c.next ≡ Some literal
+  pub facts : new ≡ take c.above old ++ negated (replace (chosen_row c.rows.now) literal) ∷ []
 
 -- The walk stands before trees with these lists of facts: the first is the facts so far, the last of them first, and the
 -- others are those of the splits that are open, the last of them first.

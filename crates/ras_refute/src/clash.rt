@@ -4,26 +4,19 @@ ghost use Rattle.ras_refute.specs.Tables.{AreAllSides};
 ghost use Rattle.ras_refute.specs.Clashing.{HasBroken, HasOpposedAt, HasOpposed};
 
 use crate::entry::are_opposed;
+use crate::facts::unmet_fact;
 use crate::rules::least_classes;
-use crate::sides::says_same;
 use crate::table::Table;
 use ras_logic::{Literal, Schema};
 use std::alloc::{AllocError, Global};
 
-/// Whether both sides of a fact that says that they are not the same are in one class.
+/// Whether both sides of a fact that says not the same are in one class.
 fn has_broken(facts: &[Literal], table: &Table, classes: &[u32]) -> bool
     requires numbers { AreAllSides table.now.entries facts.now table.now.sides }
     requires as_many { length classes.now ≡ length table.now.entries }
     ensures { IsTrue result ↔ HasBroken facts.now table.now.sides classes.now }
 {
-    let sides = table.sides.as_slice();
-    for k in 0..facts.len() {
-        let pair = sides[k];
-        if !says_same(&facts[k]) && classes[pair.left as usize] == classes[pair.right as usize] {
-            return true;
-        }
-    }
-    false
+    unmet_fact(facts, table, classes, false).is_some()
 }
 
 /// Whether the class of the term `i` has a term that it is opposed to.
@@ -63,7 +56,10 @@ fn has_clash(facts: &[Literal], table: &Table, classes: &[u32]) -> bool
     has_broken(facts, table, classes) || has_opposed(table, classes)
 }
 
-/// Whether facts cannot hold together.
+/// Whether facts clash. The terms are both sides of each fact with their prefixes, each constant, and each sort's undef. In
+/// one class are both sides of a fact that says the same, images by one function of terms of one class, undef and the
+/// image of a term of undef's class, and undef and a term whose image by a total function is in undef's class. The facts
+/// clash where both sides of a fact that says not the same are in one class, or two constants, or a constant and undef.
 pub fn clashes(alloc: Global, schema: &Schema, facts: &[Literal]) -> Result<bool, AllocError>
     ensures { IfOk result (λ b. IsTrue b ↔ FactsClash schema.now facts.now) }
 {

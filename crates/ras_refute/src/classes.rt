@@ -15,13 +15,14 @@ pub fn separate(alloc: Global, count: usize) -> Result<Vec<u32>, AllocError>
     Ok(classes)
 }
 
+/// The number of a class, where `from` becomes `to`.
 fn renamed(class: u32, from: u32, to: u32) -> u32
     ensures { result ≡ (if nat_eq class from then to else class) }
 {
     if class == from { to } else { class }
 }
 
-/// Each number that is `from` becomes `to`.
+/// In each class number `from` becomes `to`.
 fn relabel(classes: &mut [u32], from: u32, to: u32)
     ensures { classes.new ≡ relabelled from to classes.old }
 {

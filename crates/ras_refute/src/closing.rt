@@ -17,9 +17,16 @@ fn first_facts(alloc: Global, premise: &Problem) -> Result<Vec<Literal>, AllocEr
     Ok(facts)
 }
 
-/// Whether a whole tree refutes the premise by cases on the formulas, or its first fault. The facts of a node are the
-/// premise's literals and what the splits above it add: below a split by a formula under some rows of the premise, each
-/// child has the opposite of one of the formula's literals. A leaf's facts must clash.
+/// Whether a whole tree refutes the premise by cases on the formulas, or its first fault. The law `a_closed_tree_is_sound`
+/// of `ras_logic` says what a tree shows that does.
+///
+/// The root's facts are the premise's literals. A split names a formula by its place in the list, and for each row of the
+/// formula in order a row of the premise, of the same relation; no row is named twice. It has a child for each literal of the
+/// formula in order, whose facts are those of the split and the opposite of that literal, with the formula's rows replaced
+/// by those named. The facts of a leaf clash. Neither the premise nor the formulas need fit the shape.
+///
+/// The fault is the first in preorder; at one node a formula that is not there comes before rows, and those before children.
+/// Where memory runs out the answer says nothing of the tree.
 pub fn closes(
     alloc: Global,
     shape: &Shape,

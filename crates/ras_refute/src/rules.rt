@@ -1,31 +1,15 @@
 ghost use Rattle.std.specs.Prelude.{◌≡◌, ◌<◌, ℕ, List, length, slice_get, IfOk, IfSome, MatchOption};
 ghost use Rattle.ras_logic.specs.declared.literal.Literal.{Literal};
 ghost use Rattle.ras_logic.specs.Schemas.{SchemaParts, HasSorts};
-ghost use Rattle.ras_refute.specs.Tables.{IsTable, HasUndefs, AreAllSides, IsTableOf};
-ghost use Rattle.ras_refute.specs.Classes.{IsImage, MeetFacts, MeetImages, MeetUndef, MeetRulesAt, AreClosed, IsUnlike, IsDue, ArePartial, AreLeast};
+ghost use Rattle.ras_refute.specs.Tables.{IsTable, HasUndefs, IsTableOf};
+ghost use Rattle.ras_refute.specs.Classes.{IsImage, MeetImages, MeetUndef, MeetRulesAt, AreClosed, IsUnlike, IsDue, ArePartial, AreLeast};
 
 use crate::classes::{separate, unite};
 use crate::entry::{Entry, Pair};
-use crate::sides::says_same;
+use crate::facts::unmet_fact;
 use crate::table::Table;
 use ras_logic::{FunDecl, FunId, Literal, Schema};
 use std::alloc::{AllocError, Global};
-
-/// The sides of a fact that says that they are the same, where they are in different classes.
-fn unmet_fact(facts: &[Literal], table: &Table, classes: &[u32]) -> Option<Pair>
-    requires numbers { AreAllSides table.now.entries facts.now table.now.sides }
-    requires as_many { length classes.now ≡ length table.now.entries }
-    ensures { MatchOption result (MeetFacts facts.now table.now.sides classes.now) (λ pair. (schema : SchemaParts) → IsDue schema facts.now table.now classes.now pair) }
-{
-    let sides = table.sides.as_slice();
-    for k in 0..facts.len() {
-        let pair = sides[k];
-        if says_same(&facts[k]) && classes[pair.left as usize] != classes[pair.right as usize] {
-            return Some(pair);
-        }
-    }
-    None
-}
 
 /// The image by the same function of a term of the same class, in another class.
 fn unlike_image(table: &Table, classes: &[u32], i: u32, of: u32, function: FunId) -> Option<u32>
@@ -124,7 +108,7 @@ fn due_pair(schema: &Schema, facts: &[Literal], table: &Table, classes: &[u32]) 
     requires as_many { length classes.now ≡ length table.now.entries }
     ensures { MatchOption result (AreClosed schema.now facts.now table.now classes.now) (IsDue schema.now facts.now table.now classes.now) }
 {
-    if let Some(pair) = unmet_fact(facts, table, classes) {
+    if let Some(pair) = unmet_fact(facts, table, classes, true) {
         return Some(pair);
     }
     for i in 0..table.entries.len() {

@@ -22,10 +22,11 @@ pub enum TreeKind {
     NoClash,
 }
 
-/// The first node of a tree that is wrong, by its number in preorder from 0.
+/// The first node of a tree that is wrong.
 #[derive(Clone, Copy, Debug, PartialEq, Eq, Error)]
 #[error("node {node}: {kind}")]
 pub struct TreeFault {
+    /// How many nodes stand before it in preorder.
     pub node: u32,
     pub kind: TreeKind,
 }
@@ -33,8 +34,10 @@ pub struct TreeFault {
 /// Why a tree is not found to close.
 #[derive(Debug, Drop, Error)]
 pub enum CloseError {
+    /// The first fault of the tree, which does not close.
     #[error(transparent)]
     Fault(TreeFault),
+    /// Memory ran out, or a list had no room left for what a fact adds.
     #[error(transparent)]
     Memory(AllocError),
 }

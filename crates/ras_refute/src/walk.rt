@@ -1,8 +1,8 @@
-ghost use Rattle.std.specs.Prelude.{◌≡◌, ◌<◌, ◌^◌, ◌++◌, reverse, All, IfOk, IfErr, OnOk};
+ghost use Rattle.std.specs.Prelude.{◌≡◌, ◌<◌, ◌^◌, ◌++◌, length, reverse, All, IfOk, IfErr, OnOk};
 ghost use Rattle.ras_logic.specs.Clashes.{FactsClash};
 ghost use Rattle.ras_logic.specs.Refutations.{children_facts};
 ghost use Rattle.ras_refute.specs.Faults.{IsSplitBy, IsSplitFault, IsNodeFault, OnFault};
-ghost use Rattle.ras_refute.specs.Walks.{AreOpen, waiting, StandsBefore, Passes};
+ghost use Rattle.ras_refute.specs.Walks.{AreOpen, EntersCase, waiting, StandsBefore, Passes};
 
 use crate::cases::Cases;
 use crate::chosen::{are_rows_of, opposite};
@@ -11,7 +11,18 @@ use crate::tree_fault::{CloseError, TreeFault, TreeKind};
 use ras_logic::{Cube, Literal, Node, Rows, Schema, Shared};
 use std::alloc::{AllocError, Global};
 
-/// Goes on to the next case that is left: its facts are those above the split and the opposite of its literal.
+/// The facts of a split's next case: those above the split, and the opposite of the case's literal.
+fn enter_case(alloc: Global, facts: &mut Vec<Literal>, cases: Cases) -> Result<(), AllocError>
+    requires next { cases.next < length cases.literals.now }
+    requires small { All (λ k. k < 2 ^ 16) cases.rows.now }
+    ensures { OnOk result (EntersCase cases.entry facts.old.items facts.new.items) }
+{
+    facts.truncate(cases.above);
+    facts.push(opposite(alloc, &cases.literals[cases.next], cases.rows)?)?;
+    Ok(())
+}
+
+/// Goes on to the next case that is left.
 fn next_case<'a>(
     alloc: Global,
     facts: &mut Vec<Literal>,
@@ -23,8 +34,7 @@ fn next_case<'a>(
     let Some(cases) = splits.pop() else {
         return Ok(());
     };
-    facts.truncate(cases.above);
-    facts.push(opposite(alloc, &cases.literals[cases.next], cases.rows)?)?;
+    enter_case(alloc, facts, cases)?;
     let next = cases.next + 1;
     if next < cases.literals.len() {
         splits.push(Cases { next, ..cases })?;

@@ -1,0 +1,36 @@
+ghost use Rattle.std.specs.Prelude.{◌≡◌, ◌↔◌, ◌<◌, length, nat_eq, not, IsTrue, MatchOption};
+ghost use Rattle.ras_refute.specs.Sides.{same_of};
+ghost use Rattle.ras_refute.specs.Tables.{AreAllSides};
+ghost use Rattle.ras_refute.specs.Classes.{class, MeetFacts, IsUnmet};
+
+use crate::entry::Pair;
+use crate::sides::says_same;
+use crate::table::Table;
+use ras_logic::Literal;
+
+/// Whether a fact says this, and its sides are in one class or not, but not as it says.
+fn is_unmet(fact: &Literal, pair: Pair, classes: &[u32], same: bool) -> bool
+    requires left { pair.left < length classes.now }
+    requires right { pair.right < length classes.now }
+    ensures { IsTrue result ↔ ((same_of fact.now ≡ same) × (nat_eq (class classes.now pair.left) (class classes.now pair.right) ≡ not same)) }
+{
+    let together = classes[pair.left as usize] == classes[pair.right as usize];
+    says_same(fact) == same && together != same
+}
+
+/// The sides of the first fact that says this, the same or not the same, which are in one class or not, but not as it
+/// says.
+pub fn unmet_fact(facts: &[Literal], table: &Table, classes: &[u32], same: bool) -> Option<Pair>
+    requires numbers { AreAllSides table.now.entries facts.now table.now.sides }
+    requires as_many { length classes.now ≡ length table.now.entries }
+    ensures { MatchOption result (MeetFacts facts.now table.now.sides classes.now same) (IsUnmet facts.now table.now.sides classes.now same) }
+{
+    let sides = table.sides.as_slice();
+    for k in 0..facts.len() {
+        let pair = sides[k];
+        if is_unmet(&facts[k], pair, classes, same) {
+            return Some(pair);
+        }
+    }
+    None
+}
