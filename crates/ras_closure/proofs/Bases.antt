@@ -1,12 +1,10 @@
 -- The elements of variables, cells and data parameters, found among the terms.
 use Rattle.std.proofs.Common.{◌≡◌, ◌≢◌, ℕ, ◌+◌, ◌<◌, List, [], ◌∷◌, length, get_or, set, refl, sym, ◌∙◌, ap, subst, arith, ◌⊎◌, inl, inr, ⊎_elim, get_or-set_other, get_or-set_same}
-use Rattle.std.specs.Prelude.{slice_get, Some}
 use Rattle.std.proofs.lemmas.Option.{slice_get_within}
 use Rattle.std.proofs.Math.ListN.{length-set}
 use Rattle.ras_logic.specs.declared.ids.FunId.{FunId}
 use Rattle.ras_logic.specs.declared.ids.VarId.{VarId}
 use Rattle.ras_logic.specs.declared.term.Base.{Base}
-use Rattle.ras_logic.specs.declared.term.Base.TheVariants.{Var, Cell, Param}
 use Rattle.ras_logic.specs.declared.term.Term.{Term}
 use Rattle.ras_logic.specs.Terms.{base_term}
 use Rattle.ras_closure.specs.declared.values.Counted.{Counted}

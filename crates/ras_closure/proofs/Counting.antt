@@ -1,13 +1,12 @@
 -- The element of one more term.
-use Rattle.std.proofs.Common.{◌≡◌, ◌≢◌, ℕ, ◌+◌, ◌<◌, ◌≤◌, List, [], ◌∷◌, ◌++◌, length, get_or, set, refl, sym, ◌∙◌, ap, subst, arith, ◌⊎◌, inl, inr, ⊎_elim, length-append, get_or-set_other, get_or-set_same}
-use Rattle.std.specs.Prelude.{slice_get, Some}
-use Rattle.std.proofs.lemmas.Option.{slice_get_within}
+use Rattle.std.proofs.Common.{◌≡◌, ◌≢◌, ℕ, ◌+◌, ◌<◌, ◌≤◌, List, [], ◌∷◌, ◌++◌, length, get_or, set, sym, ◌∙◌, ap, subst, arith, ◌⊎◌, ⊎_elim, length-append, get_or-set_other, get_or-set_same}
+use Rattle.std.specs.Prelude.{Some}
 use Rattle.std.proofs.lemmas.List.{get_or_append_left, get_or_push}
 use Rattle.ras_logic.specs.declared.ids.SortId.{SortId}
 use Rattle.ras_logic.specs.declared.term.Term.{Term}
-use Rattle.ras_logic.proofs.TermSorts.{sort_of-undef, undef-sort}
+use Rattle.ras_logic.proofs.TermSorts.{undef-sort}
 use Rattle.ras_logic.specs.Terms.{undef_term}
-use Rattle.ras_closure.specs.Numbered.{TableParts, IsAt, IsTable, rigid_count}
+use Rattle.ras_closure.specs.Numbered.{TableParts, IsAt, IsTable}
 use Rattle.ras_closure.specs.Classes.{class}
 use Rattle.ras_closure.specs.ModelParts.{HasSortIn, AreSorted, number, count, IsNamed, AreNumbered}
 use Rattle.std.proofs.Math.ListN.{length-set}

@@ -8,16 +8,13 @@ use Rattle.std.proofs.Math.ListN.{length-set}
 use Rattle.ras_logic.specs.declared.ids.FunId.{FunId}
 use Rattle.ras_logic.specs.declared.ids.SortId.{SortId}
 use Rattle.ras_logic.specs.declared.function.FunDecl.{FunDecl}
-use Rattle.ras_logic.specs.declared.term.Term.{Term}
 use Rattle.ras_logic.specs.Terms.{image_term}
-use Rattle.ras_logic.specs.Schemas.{HasSorts}
 use Rattle.ras_closure.specs.declared.link.Link.TheVariants.{Image}
-use Rattle.ras_closure.specs.Numbered.{IsAt, TableParts, IsTable, IsImageLink}
-use Rattle.ras_closure.specs.Classes.{class}
+use Rattle.ras_closure.specs.Numbered.{TableParts, IsTable, IsImageLink}
 use Rattle.ras_closure.specs.Models.{HasNoImage, IsImage, IsTableOf, AreNumbers}
-use Rattle.ras_closure.specs.ModelParts.{HasSortIn, IsImageAt, number, count, AreSorted, AreNumbered, HaveElements, IsFoundImage, AreImages, IsLacking, AreLacking, NeedsSpare, IsNeeded, AreSpared, AreSpares, unset, sized, AreFirstImages}
-use Rattle.ras_closure.proofs.Sorting.{from_known, image-source}
-use Rattle.ras_closure.proofs.Merges.{link-of, term_at, table-sorted}
+use Rattle.ras_closure.specs.ModelParts.{IsImageAt, number, count, AreSorted, AreNumbered, HaveElements, IsFoundImage, AreImages, IsLacking, AreLacking, NeedsSpare, IsNeeded, AreSpared, AreSpares, unset, sized, AreFirstImages}
+use Rattle.ras_closure.proofs.Sorting.{image-source}
+use Rattle.ras_closure.proofs.Merges.{term_at, table-sorted}
 use Rattle.ras_closure.proofs.Images.{image-found, image-none}
 
 below_or_same : (a b : ℕ) → a < b + 1 → (a < b) ⊎ (a ≡ b)

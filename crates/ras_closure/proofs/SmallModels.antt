@@ -1,8 +1,7 @@
 -- The model of a closure's classes satisfies what was asserted, and is small.
-use Rattle.std.proofs.Common.{◌≡◌, ℕ, ◌+◌, ◌<◌, ◌≤◌, Bool, true, false, List, length, get_or, refl, sym, ◌∙◌, ap, subst, arith, ◌⊎◌, inl, inr, ⊎_elim}
-use Rattle.std.specs.Prelude.{slice_get, Option, Some, None, MatchBool}
+use Rattle.std.proofs.Common.{◌≡◌, ℕ, ◌+◌, ◌<◌, ◌≤◌, Bool, true, false, get_or, refl, sym, ◌∙◌, ap, arith, ◌⊎◌, inl, inr, ⊎_elim}
+use Rattle.std.specs.Prelude.{Some, None, MatchBool}
 use Rattle.std.proofs.lemmas.Option.{slice_get_within}
-use Rattle.ras_logic.specs.declared.ids.FunId.{FunId}
 use Rattle.ras_logic.specs.declared.ids.SortId.{SortId}
 use Rattle.ras_logic.specs.declared.raw_db.RawDb.{RawDb}
 use Rattle.ras_logic.specs.declared.values.Values.{Values}
@@ -12,7 +11,7 @@ use Rattle.ras_logic.specs.Databases.{IsElement, size_of}
 use Rattle.ras_logic.specs.Truth.{value}
 use Rattle.ras_closure.specs.Numbered.{IsAt, IsTable}
 use Rattle.ras_closure.specs.Closures.{ClosureParts, IsClosure, IsFactOf, IsSortIn, IsModelOf, LacksImage, IsSmallFor}
-use Rattle.ras_closure.specs.Models.{HasNoImage, AreNumbers}
+use Rattle.ras_closure.specs.Models.{AreNumbers}
 use Rattle.ras_closure.specs.ModelParts.{AreSorted, number, count, IsLacking, IsNeeded, sized, IsModelBy}
 use Rattle.ras_closure.proofs.Sorting.{from_known, together-sorted}
 use Rattle.ras_closure.proofs.Gaps.{small-numbers, numbered-elements, beyond-none}

@@ -1,4 +1,4 @@
-use Rattle.std.proofs.Common.{◌≡◌, ◌+◌, ◌<◌, ◌≤◌, refl, arith, ap}
+use Rattle.std.proofs.Common.{◌+◌, ◌<◌, ◌≤◌, refl, arith, ap}
 use Rattle.ras_closure.specs.Classes.{class}
 use Rattle.ras_closure.specs.ModelParts.{number}
 use Rattle.ras_closure.proofs.Merges.{term_at}

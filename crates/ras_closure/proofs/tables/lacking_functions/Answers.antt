@@ -1,4 +1,4 @@
-use Rattle.std.proofs.Common.{◌≡◌, ◌∷◌, [], arith, length-append, rules}
+use Rattle.std.proofs.Common.{◌∷◌, [], arith, length-append}
 use Rattle.ras_closure.proofs.Gaps.{lacking-more}
 use Rattle.ras_closure.proofs.tables.lacking_functions.Goals as goal
 

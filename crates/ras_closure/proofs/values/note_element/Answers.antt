@@ -3,7 +3,7 @@ use Rattle.ras_logic.specs.declared.term.Term.{Term}
 use Rattle.ras_logic.specs.Terms.{base_term}
 use Rattle.ras_closure.specs.Numbered.{IsAt}
 use Rattle.ras_closure.specs.ModelParts.{base_of}
-use Rattle.ras_closure.proofs.Bases.{elements-skip, elements-put, no_base, whole_base, base_of-same}
+use Rattle.ras_closure.proofs.Bases.{elements-put, whole_base, base_of-same}
 use Rattle.ras_closure.proofs.values.note_element.Goals as goal
 
 pub returns : goal.returns

@@ -1,4 +1,4 @@
-use Rattle.std.proofs.Common.{◌≡◌, ◌<◌, ℕ, ◌∷◌, [], List, length, get_or, arith, subst, length-append}
+use Rattle.std.proofs.Common.{◌<◌, ℕ, ◌∷◌, [], length, get_or, arith, subst, length-append}
 use Rattle.std.proofs.lemmas.Option.{slice_get-get_or}
 use Rattle.ras_logic.specs.declared.ids.RelId.{RelId}
 use Rattle.ras_logic.specs.declared.term.Base.TheVariants.{Cell}
