@@ -1,6 +1,6 @@
 -- What the facts and the rules ask of the classes.
-use Rattle.std.proofs.Common.{◌≡◌, ℕ, zero, suc, ◌<◌, List, [], ◌∷◌, length, get_or, refl, ap, subst, arith, true}
-use Rattle.std.specs.Prelude.{slice_get, Some}
+use Rattle.std.proofs.Common.{◌≡◌, ℕ, zero, suc, ◌<◌, List, [], ◌∷◌, length, get_or, refl, ap, subst, arith, true, ◌≤◌, ◌⊎◌, ⊎_elim}
+use Rattle.std.specs.Prelude.{slice_get, Option, Some, None, MatchOption}
 use Rattle.std.proofs.lemmas.Bool.{eq-eqb}
 use Rattle.std.proofs.lemmas.Option.{none-some, same_Some, slice_get_within, slice_get-get_or}
 use Rattle.ras_logic.specs.declared.ids.SortId.{SortId}
@@ -13,7 +13,8 @@ use Rattle.ras_refute.specs.declared.entry.Pair.{Pair}
 use Rattle.ras_refute.specs.Tables.{terms_of, AreSidesOf, AreAllSides, HasUndefs}
 use Rattle.ras_logic.specs.Schemas.{SchemaParts}
 use Rattle.ras_refute.specs.declared.table.Table.{Table}
-use Rattle.ras_refute.specs.Classes.{class, IsUnmet, IsDue, by_fact}
+use Rattle.ras_refute.specs.declared.rules.Unmet.{Unmet}
+use Rattle.ras_refute.specs.Classes.{class, MeetFacts, IsUnmet, MeetRulesAt, AreClosed, IsDue, by_fact}
 use Rattle.ras_refute.proofs.Entries.{length-terms_of}
 
 -- the undef of a sort is in the table
@@ -72,3 +73,17 @@ unmet-due schema facts t classes pair numbers unmet =
       left = within.0;
       right = within.1;
     }
+
+-- no rule asks for more at the terms from a number on, and the look over those before it is told of
+pub closed-or-due : (schema : SchemaParts) (facts : List Literal) (t : Table) (classes : List ℕ) (first : ℕ) (found : Option Unmet) → first ≤ length t.entries → MeetFacts facts t.sides classes true
+    → ((i : ℕ) → i < length t.entries → first ≤ i → MeetRulesAt schema t.entries classes i)
+    → MatchOption found ((i : ℕ) → i < first → 0 ≤ i → MeetRulesAt schema t.entries classes i) (λ (u : Unmet). (u.at < first) × ((fs : List Literal) → IsDue schema fs t classes u.pair))
+    → MatchOption found (AreClosed schema facts t classes) (λ (u : Unmet). (u.at ≤ length t.entries) × IsDue schema facts t classes u.pair)
+closed-or-due schema facts t classes first (Some u) within stated after before = (omega (arith, before.0, within), before.1 facts)
+closed-or-due schema facts t classes first None within stated after before = record {
+  stated = stated;
+  rules = λ i lt. ⊎_elim (λ (h : i < first). before i h (omega arith)) (λ (h : first ≤ i). after i lt h) (first_or_later i first);
+}
+  where
+    first_or_later : (i k : ℕ) → (i < k) ⊎ (k ≤ i)
+    first_or_later i k = grind arith

@@ -1,4 +1,4 @@
-ghost use Rattle.std.specs.Prelude.{◌≡◌, ◌<◌, ℕ, List, length, slice_get, IfOk, IfSome, MatchOption};
+ghost use Rattle.std.specs.Prelude.{◌≡◌, ◌<◌, ◌≤◌, ℕ, List, length, slice_get, IfOk, IfSome, MatchOption};
 ghost use Rattle.ras_logic.specs.declared.literal.Literal.{Literal};
 ghost use Rattle.ras_logic.specs.Schemas.{SchemaParts, HasSorts};
 ghost use Rattle.ras_refute.specs.Tables.{IsTable, HasUndefs, IsTableOf};
@@ -10,6 +10,13 @@ use crate::facts::unmet_fact;
 use crate::table::Table;
 use ras_logic::{FunDecl, FunId, Literal, Schema};
 use std::alloc::{AllocError, Global};
+
+/// Two terms of different classes that belong in one, and the term at which a look over all terms goes on.
+#[derive(Clone, Copy, Debug)]
+struct Unmet {
+    pair: Pair,
+    at: u32,
+}
 
 /// The image by the same function of a term of the same class, in another class.
 fn unlike_image(table: &Table, classes: &[u32], i: u32, of: u32, function: FunId) -> Option<u32>
@@ -102,31 +109,62 @@ fn unmet_rule(schema: &Schema, table: &Table, classes: &[u32], i: u32) -> Option
     }
 }
 
-/// Two terms of different classes that a fact or a rule puts together.
-fn due_pair(schema: &Schema, facts: &[Literal], table: &Table, classes: &[u32]) -> Option<Pair>
-    requires table { IsTableOf schema.now facts.now table.now }
+/// Two terms of different classes that a rule puts together for one of the terms from `first` to before `end`.
+fn unmet_among(
+    schema: &Schema,
+    table: &Table,
+    classes: &[u32],
+    first: u32,
+    end: u32,
+) -> Option<Unmet>
+    requires table { IsTable table.now.entries }
+    requires undefs { HasUndefs schema.now.sorts table.now.entries }
     requires as_many { length classes.now ≡ length table.now.entries }
-    ensures { MatchOption result (AreClosed schema.now facts.now table.now classes.now) (IsDue schema.now facts.now table.now classes.now) }
+    requires end { end ≤ length table.now.entries }
+    ensures { MatchOption result ((i : ℕ) → i < end → first ≤ i → MeetRulesAt schema.now table.now.entries classes.now i) (λ unmet. (unmet.at < end) × ((facts : List Literal) → IsDue schema.now facts table.now classes.now unmet.pair)) }
 {
-    if let Some(pair) = unmet_fact(facts, table, classes, true) {
-        return Some(pair);
-    }
-    for i in 0..table.entries.len() {
-        if let Some(pair) = unmet_rule(schema, table, classes, i as u32) {
-            return Some(pair);
+    for at in first..end {
+        if let Some(pair) = unmet_rule(schema, table, classes, at) {
+            return Some(Unmet { pair, at });
         }
     }
     None
 }
 
-/// Puts classes together until no fact and no rule asks for more.
+/// Two terms of different classes that a fact or a rule puts together. The look over the terms begins at the term `first`.
+fn next_unmet(
+    schema: &Schema,
+    facts: &[Literal],
+    table: &Table,
+    classes: &[u32],
+    first: u32,
+) -> Option<Unmet>
+    requires table { IsTableOf schema.now facts.now table.now }
+    requires as_many { length classes.now ≡ length table.now.entries }
+    requires first { first ≤ length table.now.entries }
+    ensures { MatchOption result (AreClosed schema.now facts.now table.now classes.now) (λ unmet. (unmet.at ≤ length table.now.entries) × IsDue schema.now facts.now table.now classes.now unmet.pair) }
+{
+    if let Some(pair) = unmet_fact(facts, table, classes, true) {
+        return Some(Unmet { pair, at: first });
+    }
+    let end = table.entries.len() as u32;
+    if let Some(unmet) = unmet_among(schema, table, classes, first, end) {
+        return Some(unmet);
+    }
+    unmet_among(schema, table, classes, 0, first)
+}
+
+/// Puts classes together until no fact and no rule asks for more. Each look over the terms goes on where the last one found
+/// two, since to begin anew would cost a look over all of them for each two classes.
 fn close(schema: &Schema, facts: &[Literal], table: &Table, classes: &mut [u32])
     requires { ArePartial schema.now facts.now table.now classes.old }
     ensures { AreLeast schema.now facts.now table.now classes.new }
 {
     schema.known();
-    while let Some(pair) = due_pair(schema, facts, table, classes) {
-        unite(classes, pair.left as usize, pair.right as usize);
+    let mut first = 0;
+    while let Some(unmet) = next_unmet(schema, facts, table, classes, first) {
+        unite(classes, unmet.pair.left as usize, unmet.pair.right as usize);
+        first = unmet.at;
     }
 }
 
