@@ -74,7 +74,7 @@ impl Fixed {
         Fixed::Arrow,
     ];
 
-    /// The one that is written by these bytes.
+    /// The one that is written by these bytes, if there is one.
     pub fn of(bytes: &[u8]) -> Option<Fixed>
         ensures { MatchOption result ((f : declared.Fixed) → fixed_bytes f ≢ bytes.now) (λ f. fixed_bytes f ≡ bytes.now) }
     {

@@ -8,7 +8,8 @@ use crate::scanning::{Front, scan};
 use crate::token::Token;
 use std::alloc::Global;
 
-/// The tokens of a text, in the order of their places.
+/// The tokens of a text, in the order of their places. Blanks and comments separate them, and the longest word is taken.
+/// Where the text has a fault, wherever it stands, the first is named and no tokens are given.
 pub fn tokens(alloc: Global, bytes: &[u8]) -> Result<Vec<Token>, LexError>
     requires { length bytes.now < 2 ^ 32 }
 

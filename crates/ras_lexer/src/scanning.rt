@@ -1,6 +1,6 @@
-ghost use Rattle.std.specs.Prelude.{◌≡◌, ◌<◌, ◌≤◌, length, take, drop, MatchOption, MatchResult};
+ghost use Rattle.std.specs.Prelude.{◌≡◌, ◌<◌, ◌≤◌, length};
 ghost use Rattle.std.specs.List.{prefix_len};
-ghost use Rattle.ras_lexer.specs.Words.{begins_name, is_in_name, NoWord};
+ghost use Rattle.ras_lexer.specs.Words.{begins_name, is_in_name};
 ghost use Rattle.ras_lexer.specs.Pieces.{is_blank, is_in_comment};
 ghost use Rattle.ras_lexer.specs.Fronts.{SignOf, WordOf, CommentOf, ScanOf, front_length};
 
@@ -54,8 +54,8 @@ fn is_blank(byte: u8) -> bool
     (byte == b' ' || byte == b'\t') || (byte == b'\r' || byte == b'\n')
 }
 
-#[tactic(auto, using(crate::proofs::Fronts::run_lengths))]
 /// How many bytes of a name, or of a reserved word, the bytes begin with.
+#[tactic(auto, using(crate::proofs::Fronts::run_lengths))]
 fn name_length(bytes: &[u8]) -> usize
     ensures value { result ≡ prefix_len is_in_name bytes.now }
     ensures within { result ≤ length bytes.now }
@@ -63,8 +63,8 @@ fn name_length(bytes: &[u8]) -> usize
     bytes.iter().take_while(|byte| is_in_name(**byte)).count()
 }
 
-#[tactic(auto, using(crate::proofs::Fronts::run_lengths))]
 /// How many bytes come before the end of a comment.
+#[tactic(auto, using(crate::proofs::Fronts::run_lengths))]
 fn comment_length(bytes: &[u8]) -> usize
     ensures value { result ≡ prefix_len is_in_comment bytes.now }
     ensures within { result ≤ length bytes.now }

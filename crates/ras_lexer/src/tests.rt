@@ -17,7 +17,7 @@ fn fault(error: LexError) -> Option<(u32, LexKind)> {
 
 #[test]
 fn words_stand_at_their_places(rt: HostRuntime) -> Result<(), Fail> {
-    let texts: [(&str, &[(u32, &str)]); 9] = [
+    let texts: [(&str, &[(u32, &str)]); 10] = [
         ("", &[]),
         (" \t\r\n", &[]),
         ("# all comment", &[]),
@@ -39,6 +39,18 @@ fn words_stand_at_their_places(rt: HostRuntime) -> Result<(), Fail> {
             ],
         ),
         ("::==", &[(0, ":"), (1, ":="), (3, "=")]),
+        (
+            "!==->=:->:",
+            &[
+                (0, "!="),
+                (2, "="),
+                (3, "->"),
+                (5, "="),
+                (6, ":"),
+                (7, "->"),
+                (9, ":"),
+            ],
+        ),
         (
             "{}().,;x_1#y\nor_",
             &[
@@ -81,11 +93,13 @@ fn each_reserved_word_and_sign_is_no_name(rt: HostRuntime) -> Result<(), Fail> {
 
 #[test]
 fn the_first_fault_is_named(rt: HostRuntime) -> Result<(), Fail> {
-    let texts: [(&[u8], u32, LexKind); 14] = [
+    let texts: [(&[u8], u32, LexKind); 16] = [
         (b"!", 0, LexKind::BadByte),
         (b"a - b", 2, LexKind::BadByte),
         (b"a > b", 2, LexKind::BadByte),
         (b"a! =b", 1, LexKind::BadByte),
+        (b":!", 1, LexKind::BadByte),
+        (b"->>", 2, LexKind::BadByte),
         (b"a-> 7", 4, LexKind::BadByte),
         (b"a\x00", 1, LexKind::BadByte),
         (b"\xC3\xA9", 0, LexKind::BadByte),

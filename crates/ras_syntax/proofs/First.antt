@@ -1,6 +1,7 @@
 -- Where reading stops is the first fault.
-use Rattle.std.proofs.Common.{◌≡◌, ℕ, suc, zero, ◌+◌, ◌-◌, ◌<◌, ◌≤◌, List, [], ◌∷◌, ◌++◌, length, take, get_or, Some, None, refl, sym, ap, subst, ◌∙◌, append_assoc, arith, length-append}
-use Rattle.std.proofs.lemmas.List.{take_at, append-nil}
+use Rattle.std.proofs.Common.{◌≡◌, ℕ, suc, zero, ◌+◌, ◌-◌, ◌<◌, ◌≤◌, List, [], ◌∷◌, ◌++◌, length, take, drop, get_or, Some, None, inl, inr, refl, sym, ap, subst, ◌∙◌, append_assoc, arith, length-append}
+use Rattle.std.proofs.lemmas.Bool.{cases_lt}
+use Rattle.std.proofs.lemmas.List.{take_at, append-nil, take-append-drop, take-take}
 use Rattle.ras_lexer.specs.declared.token.Token.{Token}
 use Rattle.ras_lexer.specs.declared.token.Word.{Word}
 use Rattle.ras_syntax.specs.Grammar.{IsFile, Begins}
@@ -49,9 +50,27 @@ first_fault ws left e =
     } in
     subst (λ (n : ℕ). IsFirstFault ws n) (sym k) (subst (λ (l : List Word). IsFirstFault l (length s.front)) (sym s.parts) at)
 
+-- ---- and it is the only one
+
+begins_sooner : (ws : List Word) (j k : ℕ) → j ≤ k → Begins (take k ws) → Begins (take j ws)
+begins_sooner ws j k le (more, file) =
+    let parts : take k ws ≡ take j ws ++ drop j (take k ws) = sym (take-append-drop j (take k ws)) ∙ ap (λ (l : List Word). l ++ drop j (take k ws)) (take-take j k ws le) in
+    (drop j (take k ws) ++ more, subst IsFile (ap (λ (l : List Word). l ++ more) parts ∙ append_assoc (take j ws) (drop j (take k ws)) more) file)
+
+no_later : (ws : List Word) (j k : ℕ) → IsFirstFault ws j → IsFirstFault ws k → j < k → ⊥
+no_later ws j k f g lt = f.here (omega (arith, lt, g.within)) (begins_sooner ws (j + 1) k (omega (arith, lt)) g.before)
+
+pub one_fault : (ws : List Word) (j k : ℕ) → IsFirstFault ws j → IsFirstFault ws k → j ≡ k
+one_fault ws j k f g =
+    elim (cases_lt j k) [ inl lt ↦ absurd (no_later ws j k f g lt) | inr le ↦ elim (cases_lt k j) [ inl gt ↦ absurd (no_later ws k j g f gt) | inr ge ↦ omega (arith, le, ge) ] ]
+
+-- ---- tokens behind a whole file
+
 pub trailing : (ts : List Token) → 0 < length ts → fault [] (words ts) ≡ Some (length ts)
 trailing [] lt = absurd (omega arith)
 trailing (t ∷ ts) lt = ap (λ (n : ℕ). Some (suc n)) (length-words ts)
+
+-- ---- places
 
 pub place_at : (ts : List Token) (len k : ℕ) (t : Token) → k < length ts → (get_or ts k t).at ≡ place ts len k
 place_at [] len k t lt = absurd (omega arith)

@@ -1,4 +1,4 @@
-ghost use Rattle.std.specs.Prelude.{◌≡◌, ◌∷◌, ◌++◌, [], MatchOption, false};
+ghost use Rattle.std.specs.Prelude.{◌≡◌, ◌∷◌, [], MatchOption, false};
 ghost use Rattle.std.specs.List.{flat_map};
 ghost use Rattle.ras_lexer.specs.declared.fixed.Fixed.TheVariants as signs;
 ghost use Rattle.ras_syntax.specs.Machine as m;

@@ -1,6 +1,5 @@
 ghost use Rattle.std.specs.Prelude.{◌∷◌, ◌++◌, [], length};
 ghost use Rattle.std.specs.List.{flat_map};
-ghost use Rattle.ras_lexer.specs.declared.fixed.Fixed.TheVariants as signs;
 ghost use Rattle.ras_syntax.specs.Machine as m;
 ghost use Rattle.ras_syntax.specs.Places as places;
 ghost use Rattle.ras_syntax.specs.Reading.{Moves, Took};

@@ -1,4 +1,4 @@
-ghost use Rattle.std.specs.Prelude.{◌≡◌, ◌∷◌, ◌++◌, [], List, Err, length};
+ghost use Rattle.std.specs.Prelude.{◌≡◌, [], List, Err, length};
 ghost use Rattle.ras_syntax.specs.Grammar.{IsFile};
 ghost use Rattle.ras_syntax.specs.Machine as m;
 ghost use Rattle.ras_syntax.specs.Parsing as parsing;
@@ -79,6 +79,7 @@ fn whole(alloc: Global, tokens: &[Token]) -> Result<File, ReadError>
 }
 
 /// The tree of all the tokens of a text, whose length in bytes is the place of a fault at its end.
+/// Words alone decide whether they are a file; their places are kept as they are. A term is read in a loop, however deep.
 pub fn parse(alloc: Global, tokens: &[Token], length: u32) -> Result<Tree, SyntaxError>
     // A tree is that of the tokens, which are a file. A fault is at the first token with which no file goes on.
     ensures cases { Parses tokens.now length result }

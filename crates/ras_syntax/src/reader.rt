@@ -1,4 +1,4 @@
-ghost use Rattle.std.specs.Prelude.{◌≡◌, ◌∷◌, ◌++◌, [], MatchOption, false};
+ghost use Rattle.std.specs.Prelude.{◌≡◌, ◌∷◌, [], MatchOption, false};
 ghost use Rattle.ras_syntax.specs.Machine as m;
 ghost use Rattle.ras_syntax.specs.Machine.{begins, begins_name, same};
 ghost use Rattle.ras_syntax.specs.Places as places;

@@ -189,7 +189,10 @@ fn declarations_break_at_each_token(rt: HostRuntime) -> Result<(), Fail> {
             " R(c : a,@)",
             " R(c : a, d@",
             " R(c : a, d @,",
+            " R(c : a, d :@",
+            " R(c : a, d : @)",
             " R(c : a, d : b@",
+            " R(c : a, d : b @:",
             " R(c : a)@",
             " R(c : a) @,",
             " R(c : a); @var v : a;",
@@ -249,6 +252,7 @@ fn steps_break_at_each_token(rt: HostRuntime) -> Result<(), Fail> {
             "x @= y;",
             "x.@",
             "x.c@",
+            "x.@:= y;",
             "x.c @.d",
             "x :=@",
             "x := @;",
@@ -431,6 +435,22 @@ fn each_front_and_each_wrong_token_of_a_file_is_a_fault(rt: HostRuntime) -> Resu
         let found = outcome(parse(rt.alloc(), wrong.as_slice(), 1000))?;
         assert_eq!(rt; found, Some(at), "{index}");
     }
+    Ok(())
+}
+
+#[test]
+fn a_file_of_a_mebibyte_is_read(rt: HostRuntime) -> Result<(), Fail> {
+    let mut text = Vec::new(rt.alloc());
+    text.extend_from_slice(b"system s;\n\n")?;
+    for _ in 0..149_795u32 {
+        text.extend_from_slice(b"sort a;")?;
+    }
+    assert_eq!(rt; text.len(), 1_048_576);
+    let read = tokens(rt.alloc(), text.as_slice())?;
+    let tree = parse(rt.alloc(), read.as_slice(), 1_048_576)?;
+    let sorts = &tree.file.sorts;
+    assert_eq!(rt; sorts.len(), 149_795);
+    assert_eq!(rt; sorts[149_794].at, 1_048_569);
     Ok(())
 }
 

@@ -1,4 +1,5 @@
 //! A file of the grammar, rule by rule, with the place of each of its tokens.
+//! Where nothing else is said, `at` is the place of the first.
 
 use ras_lexer::Text;
 
