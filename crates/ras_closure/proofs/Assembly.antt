@@ -7,10 +7,13 @@ use Rattle.ras_logic.specs.declared.values.Values.{Values}
 use Rattle.ras_logic.specs.declared.term.Term.{Term}
 use Rattle.ras_logic.specs.Truth.{value}
 use Rattle.ras_closure.specs.Numbered.{IsAt, IsTable}
-use Rattle.ras_closure.specs.Closures.{ClosureParts, IsClosure, IsFactOf, IsModelOf}
-use Rattle.ras_closure.specs.Models.{AreNumbers, IsModelDb, AreModelValues}
+use Rattle.ras_closure.specs.Closures.{ClosureParts, IsClosure, IsFactOf}
+use Rattle.ras_closure.specs.SmallModels.{IsModelOf}
+use Rattle.ras_closure.specs.Models.{IsModelDb}
+use Rattle.ras_closure.specs.Values.{AreModelValues}
 use Rattle.ras_closure.proofs.Models.{model-database, model-values, model-holds, model-apart, value-number}
 use Rattle.ras_closure.proofs.Laws.{facts_known, consistent}
+use Rattle.ras_closure.proofs.Models.{AreNumbers}
 
 module _ (c : ClosureParts) (table : IsTable c.table) (closure : IsClosure c) (none : c.clash ≡ None) (number : ℕ → ℕ) (size : SortId → ℕ)
     (numbers : AreNumbers c.table.shape c.table.problem.rows c.table.problem.params c.table.terms c.classes number size) (d : RawDb) (v : Values)

@@ -7,20 +7,15 @@ use Rattle.ras_logic.specs.declared.ids.VarId.{VarId}
 use Rattle.ras_logic.specs.declared.term.Base.{Base}
 use Rattle.ras_logic.specs.declared.term.Term.{Term}
 use Rattle.ras_logic.specs.Terms.{base_term}
-use Rattle.ras_closure.specs.declared.values.Counted.{Counted}
-use Rattle.ras_closure.specs.declared.values.Counted.TheVariants.{Vars, Cells, Params}
+use Rattle.ras_closure.specs.declared.values.Bases.{Bases}
+use Rattle.ras_closure.specs.declared.values.Bases.TheVariants.{Vars, Cells, Params}
 use Rattle.ras_closure.specs.Numbered.{IsAt}
-use Rattle.ras_closure.specs.Models.{IsElementOf, AreElementsOf}
-use Rattle.ras_closure.specs.ModelParts.{number, AreElementsTo, base_of}
+use Rattle.ras_closure.specs.Values.{IsElementOf, AreElementsOf, AreElementsTo, base_of}
+use Rattle.ras_closure.specs.Elements.{number}
 use Rattle.ras_closure.proofs.Merges.{at-same}
+use Rattle.ras_closure.proofs.Cases.{below_or_same, same_or}
 
-below_or_same : (a b : ℕ) → a < b + 1 → (a < b) ⊎ (a ≡ b)
-below_or_same a b lt = grind arith
-
-same_or : (a b : ℕ) → (a ≡ b) ⊎ (a ≢ b)
-same_or a b = grind arith
-
-pub base_of-same : (counted : Counted) (k l : ℕ) → base_of counted k ≡ base_of counted l → k ≡ l
+pub base_of-same : (bases : Bases) (k l : ℕ) → base_of bases k ≡ base_of bases l → k ≡ l
 base_of-same Vars k l e =
     let x : VarId = record { n = k } in
     let y : VarId = record { n = l } in

@@ -12,10 +12,12 @@ use Rattle.ras_closure.specs.declared.term_no.TermNo.{TermNo}
 use Rattle.ras_closure.specs.Numbered.{IsAt, TableParts, IsTable}
 use Rattle.ras_closure.specs.Assertions.{MarkParts, IsAsserted, is_marked, AddsMark, FactsFit}
 use Rattle.ras_closure.specs.Classes.{class, AreClosed}
-use Rattle.ras_closure.specs.Saturation.{ArePartial, AreTogether, AreClashing, AreUnbroken, IsVerdict, IsRest}
+use Rattle.ras_closure.specs.Partitions.{ArePartial, AreTogether, IsRest}
+use Rattle.ras_closure.specs.Verdicts.{AreClashing, AreUnbroken, IsVerdict}
 use Rattle.ras_closure.specs.Closures.{ClosureParts, IsClosure, IsNo, AreOfOneSort, IsFactOf, IsLiteralOf, AddsFact}
 use Rattle.ras_closure.proofs.NoFacts.{no_facts-no_clash}
 use Rattle.ras_closure.proofs.Merges.{term_at, saturated-closed, rigid-within, clashing-conflict, conflict-clash}
+use Rattle.ras_closure.proofs.Cases.{some_same, none_some, true_false}
 
 -- more facts put no fewer terms together
 pub together-more : (schema : SchemaParts) (literals : List Literal) (F G : Literal → Type 0) → ((l : Literal) → F l → G l) → {s t : Term}
@@ -58,7 +60,7 @@ module _ (old : ClosureParts) (table : IsTable old.table) (closure : IsClosure o
   marks-fit (Equal s u b) h =
       ⊎_elim (λ (e : is_marked old.marks b h.0 h.1 ≡ true). closure.facts_fit (Equal s u b) (h.0, h.1, h.2, h.3, e))
       (λ (e : (b ≡ same) × (h.0 ≡ left.n) × (h.1 ≡ right.n)).
-      one_sort s u (subst (λ (k : ℕ). IsAt old.table.terms k s) e.1 h.2) (subst (λ (k : ℕ). IsAt old.table.terms k u) e.2 h.3))
+      one_sort.both s u (subst (λ (k : ℕ). IsAt old.table.terms k s) e.1 h.2) (subst (λ (k : ℕ). IsAt old.table.terms k u) e.2 h.3))
       (mark_cases b h.0 h.1 s u h.2 h.3 h.4)
 
   pub marks-partial : ArePartial old.table new old.classes
@@ -79,12 +81,9 @@ module _ (old : ClosureParts) (table : IsTable old.table) (closure : IsClosure o
     rigid = unbroken.rigid;
     apart = λ k l lt_k lt_l marked.
         ⊎_elim (λ (e : is_marked old.marks false k l ≡ true). unbroken.apart k l (rw (← adds.width) lt_k) (rw (← adds.width) lt_l) e)
-        (λ (e : (false ≡ same) × (k ≡ left.n) × (l ≡ right.n)). absurd (false_true (e.0 ∙ is_same)))
+        (λ (e : (false ≡ same) × (k ≡ left.n) × (l ≡ right.n)). absurd (true_false (sym (e.0 ∙ is_same))))
         (adds.only false k l (rw (← adds.width) lt_k) (rw (← adds.width) lt_l) marked);
   }
-    where
-      false_true : false ≡ true → ⊥
-      false_true e = cc
 
   pub closure-same : (after : List ℕ) (clash : Option Clash) → same ≡ true → IsRest old.table new old.classes after → class after left.n ≡ class after right.n
       → IsVerdict old.table new after clash → IsClosure (record { table = old.table; marks = new; classes = after; clash = clash })
@@ -117,9 +116,6 @@ module _ (old : ClosureParts) (table : IsTable old.table) (closure : IsClosure o
     image_of_undef = closure.closed.image_of_undef;
     only_undef = closure.closed.only_undef;
   }
-    where
-      true_false : true ≡ false → ⊥
-      true_false e = cc
 
   pub closure-apart : same ≡ false → old.clash ≡ None → class old.classes left.n ≢ class old.classes right.n
       → IsClosure (record { table = old.table; marks = new; classes = old.classes; clash = old.clash })
@@ -136,12 +132,9 @@ module _ (old : ClosureParts) (table : IsTable old.table) (closure : IsClosure o
             (λ (h : (false ≡ same) × (k ≡ left.n) × (l ≡ right.n)). differ (ap (class old.classes) (sym h.1) ∙ e ∙ ap (class old.classes) h.2))
             (adds.only false k l (rw (← adds.width) lt_k) (rw (← adds.width) lt_l) marked);
       };
-      clashing = λ q some. absurd (none_some q (sym open_yet ∙ some));
+      clashing = λ q some. absurd (none_some (sym open_yet ∙ some));
     };
   }
-    where
-      none_some : (q : Clash) → None ≡ Some q → ⊥
-      none_some q e = cc
 
   pub closure-apart_clash : same ≡ false → class old.classes left.n ≡ class old.classes right.n
       → IsClosure (record { table = old.table; marks = new; classes = old.classes; clash = Some (record { left = left; right = right }) })
@@ -151,17 +144,11 @@ module _ (old : ClosureParts) (table : IsTable old.table) (closure : IsClosure o
     partial = marks-partial;
     closed = closed-apart is_apart;
     verdict = record {
-      unbroken = λ none. absurd (some_none none);
-      clashing = λ q some. subst (λ (w : Clash). AreClashing old.table new w.left.n w.right.n) (same_some some) here;
+      unbroken = λ none. absurd (none_some (sym none));
+      clashing = λ q some. subst (λ (w : Clash). AreClashing old.table new w.left.n w.right.n) (some_same some) here;
     };
   }
     where
-      some_none : {q : Clash} → Some q ≡ None → ⊥
-      some_none e = cc
-
-      same_some : {p q : Clash} → Some p ≡ Some q → p ≡ q
-      same_some e = cc
-
       here : AreClashing old.table new left.n right.n
       here = record {
         left = lt_left;
@@ -171,9 +158,6 @@ module _ (old : ClosureParts) (table : IsTable old.table) (closure : IsClosure o
       }
 
 module _ (t : TableParts) (table : IsTable t) (marks : MarkParts) (width : marks.width ≡ length t.terms) (none : (b : Bool) (i j : ℕ) → is_marked marks b i j ≡ false) where
-  true_false : true ≡ false → ⊥
-  true_false e = cc
-
   pub no_fact : (l : Literal) → IsAsserted t.terms marks l → ⊥
   no_fact (Equal s u b) h = true_false (sym h.4 ∙ none b h.0 h.1)
 
@@ -190,18 +174,12 @@ module _ (t : TableParts) (table : IsTable t) (marks : MarkParts) (width : marks
           let terms_same : s ≡ u = some_same (sym at_i ∙ subst (λ (k : ℕ). slice_get t.terms k ≡ Some u) (sym same) at_j) in
           subst (λ (w : Term). Together t.shape.schema t.problem.literals (IsAsserted t.terms marks) s w) terms_same (reflexive s (table.terms.known i s at_i));
     }
-      where
-        some_same : {u w : Term} → Some u ≡ Some w → u ≡ w
-        some_same h = cc
 
     pub start-verdict : IsVerdict t marks classes None
     start-verdict = record {
       unbroken = λ e. record { rigid = λ k lt. own k (rw all (rigid-within t table k lt)); apart = λ i j lt_i lt_j marked. absurd (true_false (sym marked ∙ none false i j)) };
-      clashing = λ q e. absurd (none_some q e);
+      clashing = λ q e. absurd (none_some e);
     }
-      where
-        none_some : (q : Clash) → None ≡ Some q → ⊥
-        none_some q e = cc
 
   pub start-closure : (before after : List ℕ) (clash : Option Clash) → IsRest t marks before after → IsVerdict t marks after clash
       → IsClosure (record { table = t; marks = marks; classes = after; clash = clash })

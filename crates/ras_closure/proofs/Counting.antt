@@ -1,20 +1,20 @@
 -- The element of one more term.
 use Rattle.std.proofs.Common.{◌≡◌, ◌≢◌, ℕ, ◌+◌, ◌<◌, ◌≤◌, List, [], ◌∷◌, ◌++◌, length, get_or, set, sym, ◌∙◌, ap, subst, arith, ◌⊎◌, ⊎_elim, length-append, get_or-set_other, get_or-set_same}
-use Rattle.std.specs.Prelude.{Some}
 use Rattle.std.proofs.lemmas.List.{get_or_append_left, get_or_push}
 use Rattle.ras_logic.specs.declared.ids.SortId.{SortId}
 use Rattle.ras_logic.specs.declared.term.Term.{Term}
 use Rattle.ras_logic.proofs.TermSorts.{undef-sort}
 use Rattle.ras_logic.specs.Terms.{undef_term}
-use Rattle.ras_closure.specs.Numbered.{TableParts, IsAt, IsTable}
+use Rattle.ras_closure.specs.Numbered.{TableParts, IsAt, IsSortOf, IsTable}
 use Rattle.ras_closure.specs.Classes.{class}
-use Rattle.ras_closure.specs.ModelParts.{HasSortIn, AreSorted, number, count, IsNamed, AreNumbered}
+use Rattle.ras_closure.specs.Elements.{AreSorted, number, count, IsNamed, AreNumbered}
 use Rattle.std.proofs.Math.ListN.{length-set}
 use Rattle.ras_closure.proofs.Merges.{at-same, term_at}
+use Rattle.ras_closure.proofs.Cases.{same_or, below_or, le_or, some_same}
 
 module _ (t : TableParts) (table : IsTable t) (classes : List ℕ) (lawful : AreSorted t classes) where
   -- a class with the number of an undef is that of the sort's undef
-  low-class : (i : ℕ) (s : Term) (sort : SortId) → i < length t.terms → IsAt t.terms i s → HasSortIn t s sort → class classes i < t.shape.schema.sorts → class classes i ≡ sort.n
+  low-class : (i : ℕ) (s : Term) (sort : SortId) → i < length t.terms → IsAt t.terms i s → IsSortOf t s sort → class classes i < t.shape.schema.sorts → class classes i ≡ sort.n
   low-class i s sort lt at is_sort low =
       let u : SortId = record { n = class classes i } in
       let there = lawful.sorted i (class classes i) s (undef_term u) sort at (table.terms.undefs u low) (sym (lawful.own i lt)) is_sort in
@@ -47,10 +47,10 @@ module _ (t : TableParts) (table : IsTable t) (classes : List ℕ) (lawful : Are
       undef : class classes n < t.shape.schema.sorts → x ≡ 0
       above : t.shape.schema.sorts ≤ class classes n → 0 < x
       same : x ≡ number (numbers ++ x ∷ []) (class classes n)
-      apart : (j : ℕ) (s u : Term) (sort : SortId) → j < n → IsAt t.terms n s → IsAt t.terms j u → HasSortIn t s sort → HasSortIn t u sort → x ≡ number numbers j
+      apart : (j : ℕ) (s u : Term) (sort : SortId) → j < n → IsAt t.terms n s → IsAt t.terms j u → IsSortOf t s sort → IsSortOf t u sort → x ≡ number numbers j
           → class classes n ≡ class classes j
       grows : (sort : SortId) → count counts sort ≤ count new sort
-      within : (s : Term) (sort : SortId) → IsAt t.terms n s → HasSortIn t s sort → x ≤ count new sort
+      within : (s : Term) (sort : SortId) → IsAt t.terms n s → IsSortOf t s sort → x ≤ count new sort
       named : (sort : SortId) (y : ℕ) → 0 < y → y ≤ count new sort → IsNamed t (numbers ++ x ∷ []) (n + 1) sort y
 
     next-numbered : (new : List ℕ) → IsNext new → AreNumbered t classes (numbers ++ x ∷ []) new (n + 1)
@@ -81,9 +81,6 @@ module _ (t : TableParts) (table : IsTable t) (classes : List ℕ) (lawful : Are
           (λ (e : i ≡ n). subst (λ (y : ℕ). y ≤ count new sort) (sym (ap (number (numbers ++ x ∷ [])) e ∙ newest)) (next.within s sort (subst (λ (k : ℕ). IsAt t.terms k s) e at) is)) (below_or_here i lt);
       named = next.named;
     }
-
-    below_or : (a b : ℕ) → (a < b) ⊎ (b ≤ a)
-    below_or a b = grind arith
 
     -- undef's element
     pub undef-numbered : class classes n < t.shape.schema.sorts → x ≡ 0 → AreNumbered t classes (numbers ++ x ∷ []) counts (n + 1)
@@ -130,7 +127,7 @@ module _ (t : TableParts) (table : IsTable t) (classes : List ℕ) (lawful : Are
         term-of i lt = term_at t.terms i lt
 
     -- an element of its own
-    pub new-numbered : (sort : SortId) (s : Term) → IsAt t.terms n s → HasSortIn t s sort → sort.n < t.shape.schema.sorts → t.shape.schema.sorts ≤ class classes n → n ≤ class classes n
+    pub new-numbered : (sort : SortId) (s : Term) → IsAt t.terms n s → IsSortOf t s sort → sort.n < t.shape.schema.sorts → t.shape.schema.sorts ≤ class classes n → n ≤ class classes n
         → x ≡ count counts sort + 1 → AreNumbered t classes (numbers ++ x ∷ []) (set counts sort.n x) (n + 1)
     new-numbered sort s at is lt_sort high first is_x =
         let le = lawful.low n lt_n in
@@ -143,13 +140,13 @@ module _ (t : TableParts) (table : IsTable t) (classes : List ℕ) (lawful : Are
           same = sym (ap (number (numbers ++ x ∷ [])) own ∙ newest);
           apart = λ j r u q lt at_n at_j is_n is_j e.
               let same_term = at-same t.terms n r s at_n at in
-              let one : q ≡ sort = some_same q sort (sym is_n ∙ subst (λ (w : Term). HasSortIn t w sort) (sym same_term) is) in
+              let one : q ≡ sort = some_same (sym is_n ∙ subst (λ (w : Term). IsSortOf t w sort) (sym same_term) is) in
               let le_j = so_far.within j u q lt at_j is_j in
               absurd (omega (arith, le_j, e, is_x, ap (λ (w : SortId). count counts w) one));
           grows = λ q. ⊎_elim (λ (e : q.n ≡ sort.n). omega (arith, is_x, here q e, ap (λ (m : ℕ). get_or counts m 0) e)) (λ (h : q.n ≢ sort.n). omega (arith, there q h)) (same_or q.n sort.n);
           within = λ r q at_n is_n.
               let same_term = at-same t.terms n r s at_n at in
-              let one : q ≡ sort = some_same q sort (sym is_n ∙ subst (λ (w : Term). HasSortIn t w sort) (sym same_term) is) in
+              let one : q ≡ sort = some_same (sym is_n ∙ subst (λ (w : Term). IsSortOf t w sort) (sym same_term) is) in
               omega (arith, here q (ap (λ (w : SortId). w.n) one));
           named = λ q y lt le_y.
               ⊎_elim
@@ -161,22 +158,13 @@ module _ (t : TableParts) (table : IsTable t) (classes : List ℕ) (lawful : Are
                 s = s;
                 below = omega arith;
                 here = at;
-                is_sort = subst (λ (w : SortId). HasSortIn t s w) same_sort is;
+                is_sort = subst (λ (w : SortId). IsSortOf t s w) same_sort is;
                 element = newest ∙ omega (arith, is_x, h, le_y, here q e, ap (λ (m : ℕ). get_or counts m 0) e);
               })
               (le_or y (count counts q)))
               (λ (h : q.n ≢ sort.n). named-older q y (so_far.named q y lt (rw (← there q h) le_y))) (same_or q.n sort.n);
         })
       where
-        same_or : (a b : ℕ) → (a ≡ b) ⊎ (a ≢ b)
-        same_or a b = grind arith
-
-        le_or : (a b : ℕ) → (a ≤ b) ⊎ (b < a)
-        le_or a b = grind arith
-
-        some_same : (p q : SortId) → Some p ≡ Some q → p ≡ q
-        some_same p q e = cc
-
         here : (q : SortId) → q.n ≡ sort.n → count (set counts sort.n x) q ≡ x
         here q e = ap (λ (m : ℕ). get_or (set counts sort.n x) m 0) e ∙ get_or-set_same counts sort.n x 0 (rw so_far.sorts lt_sort)
 

@@ -17,14 +17,17 @@ use Rattle.ras_closure.specs.declared.link.Link.{Link}
 use Rattle.ras_closure.specs.declared.link.Link.TheVariants.{Base as BaseLink, Image}
 use Rattle.ras_logic.specs.Terms.{base_term}
 use Rattle.ras_closure.specs.Numbered.{TableParts, IsAt, IsTable}
-use Rattle.ras_closure.specs.Closures.{ClosureParts, IsClosure, IsFactOf, HasNoModel, IsModelOf}
-use Rattle.ras_closure.specs.Models.{IsImage, IsTableOf, IsElementOf, AreElementsOf, variable, number_of, room_of}
-use Rattle.ras_closure.specs.ModelParts.{IsImageAt}
-use Rattle.ras_closure.proofs.Images.{image-found, image-none}
-use Rattle.ras_closure.proofs.Numbers.{uniform-numbers}
+use Rattle.ras_closure.specs.Closures.{ClosureParts, IsClosure, IsFactOf, HasNoModel}
+use Rattle.ras_closure.specs.SmallModels.{IsModelOf}
+use Rattle.ras_closure.specs.Models.{IsImage, IsTableOf}
+use Rattle.ras_closure.specs.Values.{IsElementOf, AreElementsOf, variable}
+use Rattle.ras_closure.specs.Images.{IsImageAt}
+use Rattle.ras_closure.proofs.FoundImages.{image-found, image-none}
+use Rattle.ras_closure.proofs.Numbers.{number_of, room_of, uniform-numbers}
 use Rattle.ras_closure.proofs.Merges.{below}
 use Rattle.ras_closure.proofs.Laws.{consistent}
 use Rattle.ras_closure.proofs.Assembly.{model-of}
+use Rattle.ras_closure.proofs.Cases.{same_or, some_same}
 
 -- a list of what there is for each number
 choose : {X : Type 0} (P : ℕ → X → Type 0) (d : X) (n : ℕ) → ((k : ℕ) → k < n → (y : X) × P k y) → (ys : List X) × (length ys ≡ n) × ((k : ℕ) → k < n → P k (get_or ys k d))
@@ -37,9 +40,6 @@ choose {X = X} P d (suc n) f =
     each : (y : X) → P 0 y → (ys : List X) → ((k : ℕ) → k < n → P (suc k) (get_or ys k d)) → (k : ℕ) → k < suc n → P k (get_or (y ∷ ys) k d)
     each y p ys q zero lt = p
     each y p ys q (suc k) lt = q k (omega arith)
-
-same_or : (a b : ℕ) → (a ≡ b) ⊎ (a ≢ b)
-same_or a b = grind arith
 
 -- the first number of which it holds, or none
 search_to : (P : ℕ → Type 0) → ((k : ℕ) → P k ⊎ (P k → ⊥)) → (n : ℕ) → ((k : ℕ) × (k < n) × P k) ⊎ ((k : ℕ) → k < n → P k → ⊥)
@@ -80,9 +80,6 @@ at_or terms b k = go (slice_get terms k) refl
         none : None ≡ Some (base_term b) → ⊥
         none h = cc
     go (Some t) e = ⊎_elim (λ (g : t ≡ base_term b). inl (e ∙ ap (λ (u : Term). Some u) g)) (λ (h : t ≢ base_term b). inr (λ q. h (some_same (sym e ∙ q)))) (term_is_base t b)
-      where
-        some_same : {u w : Term} → Some u ≡ Some w → u ≡ w
-        some_same h = cc
 
 element-of : (terms : List Term) (number : ℕ → ℕ) (b : Base) → (x : ℕ) × IsElementOf terms number b x
 element-of terms number b =
@@ -140,10 +137,7 @@ module _ (t : TableParts) (table : IsTable t) (number : ℕ → ℕ) (size : Sor
       nothing decl h = cc
   table_at k (Some decl) e =
       let y = table-of (record { n = k }) decl in
-      (y.0, λ other h. subst (λ (q : FunDecl). IsTableOf t.terms number size (record { n = k }) q y.0) (some_same decl other (sym e ∙ h)) y.1)
-    where
-      some_same : (x y : FunDecl) → Some x ≡ Some y → x ≡ y
-      some_same x y h = cc
+      (y.0, λ other h. subst (λ (q : FunDecl). IsTableOf t.terms number size (record { n = k }) q y.0) (some_same (sym e ∙ h)) y.1)
 
   abbrev IsRowOf : ℕ → List ℕ → Type 0
   IsRowOf k ys = (r : RelId) → slice_get t.problem.rows k ≡ Some r → AreElementsOf t.terms number (Cell k) (length (get_or t.shape.relations r.n [])) ys
@@ -155,10 +149,7 @@ module _ (t : TableParts) (table : IsTable t) (number : ℕ → ℕ) (size : Sor
       nothing r h = cc
   row_at k (Some r) e =
       let y = elements-of t.terms number (Cell k) (length (get_or t.shape.relations r.n [])) in
-      (y.0, λ other h. subst (λ (q : RelId). AreElementsOf t.terms number (Cell k) (length (get_or t.shape.relations q.n [])) y.0) (some_same r other (sym e ∙ h)) y.1)
-    where
-      some_same : (x y : RelId) → Some x ≡ Some y → x ≡ y
-      some_same x y h = cc
+      (y.0, λ other h. subst (λ (q : RelId). AreElementsOf t.terms number (Cell k) (length (get_or t.shape.relations q.n [])) y.0) (some_same (sym e ∙ h)) y.1)
 
 -- without a clash the facts hold somewhere
 pub a_model : (c : ClosureParts) → IsTable c.table → IsClosure c → c.clash ≡ None → (d : RawDb) × (v : Values) × IsModelOf c d v

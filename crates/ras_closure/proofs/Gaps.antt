@@ -11,17 +11,26 @@ use Rattle.ras_logic.specs.declared.function.FunDecl.{FunDecl}
 use Rattle.ras_logic.specs.Terms.{image_term}
 use Rattle.ras_closure.specs.declared.link.Link.TheVariants.{Image}
 use Rattle.ras_closure.specs.Numbered.{TableParts, IsTable, IsImageLink}
-use Rattle.ras_closure.specs.Models.{HasNoImage, IsImage, IsTableOf, AreNumbers}
-use Rattle.ras_closure.specs.ModelParts.{IsImageAt, number, count, AreSorted, AreNumbered, HaveElements, IsFoundImage, AreImages, IsLacking, AreLacking, NeedsSpare, IsNeeded, AreSpared, AreSpares, unset, sized, AreFirstImages}
+use Rattle.ras_closure.specs.Images.{HasNoImage, IsImageAt, IsFoundImage, AreImages}
+use Rattle.ras_closure.specs.Models.{IsImage, IsTableOf}
+use Rattle.ras_closure.specs.Elements.{number, count, AreSorted, AreNumbered, HaveElements}
+use Rattle.ras_closure.specs.Spares.{IsLacking, AreLacking, NeedsSpare, IsNeeded, AreSpared, AreSpares, sized}
 use Rattle.ras_closure.proofs.Sorting.{image-source}
 use Rattle.ras_closure.proofs.Merges.{term_at, table-sorted}
-use Rattle.ras_closure.proofs.Images.{image-found, image-none}
+use Rattle.ras_closure.proofs.FoundImages.{image-found, image-none}
+use Rattle.ras_closure.proofs.Models.{AreNumbers}
+use Rattle.ras_closure.proofs.Cases.{below_or_same, same_or, below_or, le_or, some_same, none_some, true_false}
 
-below_or_same : (a b : ℕ) → a < b + 1 → (a < b) ⊎ (a ≡ b)
-below_or_same a b lt = grind arith
+-- how many are false
+abbrev pub unset : List Bool → ℕ
+unset [] = 0
+unset (true ∷ bs) = unset bs
+unset (false ∷ bs) = unset bs + 1
 
-same_or : (a b : ℕ) → (a ≡ b) ⊎ (a ≢ b)
-same_or a b = grind arith
+-- the images of the first elements
+pub record AreFirstImages (t : TableParts) (numbers counts : List ℕ) (spares : List Bool) (f : FunId) (decl : FunDecl) (n : ℕ) (table : List ℕ) : Type 0 where
+  pub long : length table ≡ n
+  pub images : (k : ℕ) → k < n → IsImage t.terms (number numbers) (sized counts spares) f decl (k + 1) (get_or table k 0)
 
 option_more : {X : Type 0} (o : Option X) (P P2 : Type 0) (Q : X → Type 0) → MatchOption o P Q → (P → P2) → MatchOption o P2 Q
 option_more None P P2 Q h f = f h
@@ -42,9 +51,6 @@ module _ (t : TableParts) (numbers : List ℕ) (f : FunId) (k : ℕ) (images : L
   of_same : (of of2 : ℕ) → IsImageLink t.links k of f → IsImageLink t.links k of2 f → of ≡ of2
   of_same of of2 a b = inner (some_same (sym a ∙ b))
     where
-      some_same : Some (Image of f) ≡ Some (Image of2 f) → Image of f ≡ Image of2 f
-      some_same e = cc
-
       inner : Image of f ≡ Image of2 f → of ≡ of2
       inner e = cc
 
@@ -126,9 +132,6 @@ module _ (t : TableParts) (table : IsTable t) (numbers counts : List ℕ) (eleme
         → IsImage t.terms (number numbers) (sized counts spares) f decl (k + 1) y
     image-is spares known long k y missing is answer = go (below_or k (length images)) (get_or images k None) refl answer
       where
-        below_or : (a b : ℕ) → (a < b) ⊎ (b ≤ a)
-        below_or a b = grind arith
-
         go : (k < length images) ⊎ (length images ≤ k) → (o : Option ℕ) → get_or images k None ≡ o → MatchOption o (y ≡ missing) (λ z. y ≡ z)
             → IsImage t.terms (number numbers) (sized counts spares) f decl (k + 1) y
         go (inl lt) None e h = inr (missing-none k lt e, h ∙ is)
@@ -137,9 +140,6 @@ module _ (t : TableParts) (table : IsTable t) (numbers counts : List ℕ) (eleme
             image-found t table (number numbers) f (k + 1) (sized counts spares) decl found_it.k y found_it.at (h ∙ found_it.element)
         go (inr beyond) None e h = inr (beyond-none known (k + 1) (omega (arith, beyond, long)), h ∙ is)
         go (inr beyond) (Some z) e h = absurd (none_some (sym (get_or_past images k None beyond) ∙ e))
-          where
-            none_some : None ≡ Some z → ⊥
-            none_some q = cc
 
 -- one more function is lacking or not
 pub lacking-more : (t : TableParts) (numbers counts : List ℕ) (lacking : List Bool) (b : Bool) (k : ℕ) (decl : FunDecl) → length lacking ≡ k → AreLacking t numbers counts lacking
@@ -159,9 +159,6 @@ lacking-more t numbers counts lacking b k decl long are known is = record {
         subst (λ (x : Bool). MatchBool x (IsLacking t numbers counts f d) (IsLacking t numbers counts f d → ⊥)) (sym (get_or_push lacking b false f.n (long ∙ sym e)))
         (subst (λ (q : FunDecl). MatchBool b (IsLacking t numbers counts f q) (IsLacking t numbers counts f q → ⊥)) same
         (subst (λ (m : ℕ). MatchBool b (IsLacking t numbers counts (record { n = m }) decl) (IsLacking t numbers counts (record { n = m }) decl → ⊥)) (sym e) is))
-      where
-        some_same : Some decl ≡ Some d → decl ≡ d
-        some_same h = cc
 
 -- one function more is spared
 pub spared-more : (functions : List FunDecl) (lacking spares : List Bool) (k : ℕ) (decl : FunDecl) → slice_get functions k ≡ Some decl → AreSpared functions lacking spares k
@@ -173,9 +170,6 @@ spared-more functions lacking spares k decl known before here f d lt f_known nee
     ap (λ (q : FunDecl). get_or spares q.target.n false) same
     ∙ here (subst (λ (q : FunDecl). NeedsSpare (get_or lacking k false) spares q) same (subst (λ (m : ℕ). NeedsSpare (get_or lacking m false) spares d) e needs)))
     (below_or_same f k lt)
-  where
-    some_same : Some d ≡ Some decl → d ≡ decl
-    some_same h = cc
 
 -- one more spare element: what was there is, and fewer are not there
 set-kept : (spares : List Bool) (s k : ℕ) → s < length spares → get_or spares k false ≡ true → get_or (set spares s true) k false ≡ true
@@ -201,9 +195,6 @@ needed-more functions lacking spares s lt before here sort e =
 pub unset-set : (spares : List Bool) (s : ℕ) → s < length spares → get_or spares s false ≡ false → unset (set spares s true) < unset spares
 unset-set [] s lt e = absurd (omega (arith, lt))
 unset-set (true ∷ bs) zero lt e = absurd (true_false e)
-  where
-    true_false : true ≡ false → ⊥
-    true_false h = cc
 unset-set (false ∷ bs) zero lt e = omega arith
 unset-set (true ∷ bs) (suc s) lt e = unset-set bs s (omega (arith, lt)) e
 unset-set (false ∷ bs) (suc s) lt e = let h = unset-set bs s (omega (arith, lt)) e in omega (arith, h)
@@ -226,9 +217,6 @@ small-numbers t table classes numbers counts lacking spares lawful numbered all 
       spare-room decl.target spare;
 }
   where
-    below_or : (a b : ℕ) → (a ≤ b) ⊎ (b < a)
-    below_or a b = grind arith
-
     spare-room : (s : SortId) → get_or spares s.n false ≡ true → 0 < sized counts spares s
     spare-room s e = rw e (omega arith)
 
@@ -237,7 +225,7 @@ small-numbers t table classes numbers counts lacking spares lawful numbered all 
     reason f decl known total x lt le none =
         ⊎_elim (λ (h : x ≤ count counts decl.source). inl (is_lacking (get_or lacking f.n false) (lack.each f decl (rw all (slice_get_within t.shape.schema.functions f.n decl known)) known)
         (record { total = total; x = x; above = lt; within = h; none = none })))
-        (λ (h : count counts decl.source < x). inr (is_spare (get_or spares decl.source.n false) refl h)) (below_or x (count counts decl.source))
+        (λ (h : count counts decl.source < x). inr (is_spare (get_or spares decl.source.n false) refl h)) (le_or x (count counts decl.source))
       where
         is_lacking : (b : Bool) → MatchBool b (IsLacking t numbers counts f decl) (IsLacking t numbers counts f decl → ⊥) → IsLacking t numbers counts f decl → b ≡ true
         is_lacking true h l = refl

@@ -10,12 +10,13 @@ use Rattle.ras_logic.specs.Schemas.{HasSorts}
 use Rattle.ras_logic.specs.Clashes.{IsTerm}
 use Rattle.ras_closure.specs.declared.clash.Clash.{Clash}
 use Rattle.ras_closure.specs.Numbered.{IsAt, IsTable}
-use Rattle.ras_closure.specs.Classes.{class, AreConsistent}
+use Rattle.ras_closure.specs.Classes.{class}
 use Rattle.ras_closure.specs.Closures.{ClosureParts, IsClosure, IsFactOf, AreTogetherIn, FactsClashIn, HasNoModel, NamesConflict}
 use Rattle.ras_closure.proofs.Sorting.{from_known}
 use Rattle.ras_closure.proofs.Soundness.{clash-none}
 use Rattle.ras_closure.proofs.Completeness.{together-class}
 use Rattle.ras_closure.proofs.Merges.{term_at, clashing-conflict, conflict-clash}
+use Rattle.ras_closure.proofs.Models.{AreConsistent}
 
 module _ (c : ClosureParts) (table : IsTable c.table) (closure : IsClosure c) where
   pub facts_known : (s t : Term) (same : Bool) → IsFactOf c (Equal s t same) → IsTerm c.table.shape.schema c.table.problem.literals s × IsTerm c.table.shape.schema c.table.problem.literals t

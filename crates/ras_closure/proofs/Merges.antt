@@ -19,10 +19,16 @@ use Rattle.ras_logic.specs.Clashes.{Together, Clash, symmetric, transitive, stat
 use Rattle.ras_closure.specs.Classes.{class, AreClosed, Coarsens, relabelled}
 use Rattle.ras_closure.specs.Numbered.{IsAt, TableParts, IsImageLink, IsTable, rigid_count}
 use Rattle.ras_closure.specs.Assertions.{MarkParts, IsAsserted, is_marked, FactsFit}
-use Rattle.ras_closure.specs.Saturation.{Forced, by_images, by_undef, by_total, IsSaturated, AreBelow, ArePartial, AreTogether, AreClashing, AreUnbroken, MayMerge, AreBreaking}
+use Rattle.ras_closure.specs.Rules.{Forced, IsSaturated}
+use Rattle.ras_closure.specs.Rules.{by_images, by_undef, by_total}
+use Rattle.ras_closure.specs.Closures.{asserted_apart, constants, constant_and_undef, undef_and_constant}
+use Rattle.ras_closure.specs.Partitions.{AreBelow, ArePartial, AreTogether}
+use Rattle.ras_closure.specs.Verdicts.{AreClashing, AreUnbroken}
+use Rattle.ras_closure.specs.Merging.{MayMerge, AreBreaking}
 use Rattle.ras_closure.specs.declared.clash.Clash as Named
-use Rattle.ras_closure.specs.Closures.{Conflict, asserted_apart, constants, constant_and_undef, undef_and_constant}
+use Rattle.ras_closure.specs.Closures.{Conflict}
 use Rattle.ras_closure.proofs.Sorting.{from_known, HasSort, sort-within, term-sorted, together-sorted}
+use Rattle.ras_closure.proofs.Cases.{below_or, none_some}
 
 pub coarsens-through : (old mid new : List ℕ) → length mid ≡ length old → Coarsens old mid → Coarsens mid new → Coarsens old new
 coarsens-through old mid new long first second i j lt_i lt_j e = second i j (rw long lt_i) (rw long lt_j) (first i j lt_i lt_j e)
@@ -118,9 +124,6 @@ module _ (t : TableParts) (table : IsTable t) where
       let small : c.n < length t.shape.schema.constants = omega (arith, lt, h) in
       let e : t.shape.schema.sorts + c.n ≡ k = omega (arith, h) in
       (c, small, sym e, subst (λ (m : ℕ). IsAt t.terms m (constant_term c)) e (table.terms.constants c small)))) (below_or k t.shape.schema.sorts)
-    where
-      below_or : (a b : ℕ) → (a < b) ⊎ (b ≤ a)
-      below_or a b = grind arith
 
   pub rigid-within : (k : ℕ) → k < rigid_count t → k < length t.terms
   rigid-within k lt = ⊎_elim (λ (h : (k < t.shape.schema.sorts) × IsAt t.terms k (undef_term (record { n = k }))). slice_get_within t.terms k (undef_term (record { n = k })) h.1)
@@ -136,10 +139,7 @@ pub sort-exists : (t : TableParts) → IsTable t → (s : Term) (u : SortId) →
 sort-exists t table s u h = sort-within t.shape t.problem.rows t.problem.params table.shape.schema table.shape.vars table.shape.columns table.fits.params s u h
 
 pub not_unsorted : (t : TableParts) → IsTable t → (i : ℕ) (s : Term) → IsAt t.terms i s → None ≡ sort_of t.shape t.problem.rows t.problem.params s → ⊥
-not_unsorted t table i s at e = let h = table-sorted t table i s at in none_some h.sort (e ∙ h.is_sort)
-  where
-    none_some : (u : SortId) → None ≡ Some u → ⊥
-    none_some u h = cc
+not_unsorted t table i s at e = let h = table-sorted t table i s at in none_some (e ∙ h.is_sort)
 
 module _ (t : TableParts) (table : IsTable t) (marks : MarkParts) (classes : List ℕ) (partial : ArePartial t marks classes) where
   pub forced-together : (i j : ℕ) → Forced t classes i j → AreTogether t marks i j

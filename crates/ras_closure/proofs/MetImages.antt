@@ -6,8 +6,11 @@ use Rattle.ras_logic.specs.declared.ids.FunId.{FunId}
 use Rattle.ras_closure.specs.declared.link.Link.TheVariants.{Base, Image}
 use Rattle.ras_closure.specs.Numbered.{IsImageLink, TableParts, IsTable}
 use Rattle.ras_closure.specs.Classes.{class}
-use Rattle.ras_closure.specs.Saturation.{SignatureParts, signature, IsImageOf, MeetsImage, MeetsAt, IsMet, AreMet, AreUndefRules, IsSaturated, IsForcedPair, by_images}
+use Rattle.ras_closure.specs.Signatures.{SignatureParts, signature, IsImageOf, MeetsImage, MeetsAt, IsMet, AreMet}
+use Rattle.ras_closure.specs.Rules.{AreUndefRules, IsSaturated, IsForcedPair}
+use Rattle.ras_closure.specs.Rules.{by_images}
 use Rattle.ras_closure.proofs.Places.{place-same, place-below}
+use Rattle.ras_closure.proofs.Cases.{some_same}
 
 place_cases : (a b : ℕ) → (a ≡ b) ⊎ (a ≢ b)
 place_cases a b = grind arith
@@ -40,7 +43,7 @@ pub meets-at : (t : TableParts) (classes : List ℕ) (old new : SignatureParts) 
     → MeetsImage t classes old new f (class classes of) met → class classes met ≡ class classes i → MeetsAt t classes old new i
 meets-at t classes old new i of met f link rules meets alike = record {
   here = λ of2 g link2.
-      let e : Image of f ≡ Image of2 g = some_same of2 g (sym link ∙ link2) in
+      let e : Image of f ≡ Image of2 g = some_same (sym link ∙ link2) in
       let same_of : of ≡ of2 = of_same of2 g e in
       let same_f : f ≡ g = f_same of2 g e in
       subst (λ (h : FunId). IsMet t classes new i of2 h) same_f (subst (λ (x : ℕ). IsMet t classes new i x f) same_of
@@ -48,9 +51,6 @@ meets-at t classes old new i of met f link rules meets alike = record {
   kept = meets.kept;
 }
   where
-    some_same : (of2 : ℕ) (g : FunId) → Some (Image of f) ≡ Some (Image of2 g) → Image of f ≡ Image of2 g
-    some_same of2 g h = cc
-
     of_same : (of2 : ℕ) (g : FunId) → Image of f ≡ Image of2 g → of ≡ of2
     of_same of2 g h = cc
 

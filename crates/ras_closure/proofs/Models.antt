@@ -1,5 +1,5 @@
 -- A closed table of classes without a clash gives a database in which the facts hold.
-use Rattle.std.proofs.Common.{◌≡◌, ℕ, zero, suc, ◌+◌, ◌<◌, ◌≤◌, Bool, true, false, List, [], ◌∷◌, ◌++◌, length, get_or, nat_eq, refl, sym, ◌∙◌, ap, subst, arith, inl, inr, append_assoc, cond}
+use Rattle.std.proofs.Common.{◌≡◌, ◌≢◌, ℕ, zero, suc, ◌+◌, ◌<◌, ◌≤◌, Bool, true, false, List, [], ◌∷◌, ◌++◌, length, get_or, nat_eq, refl, sym, ◌∙◌, ap, subst, arith, inl, inr, append_assoc, cond}
 use Rattle.std.specs.Prelude.{slice_get, Some, None, option_and_then, All, IsTrue, not, nat_lt}
 use Rattle.std.proofs.lemmas.Option.{slice_get_within, get_or_from_slice_get, cond_some}
 use Rattle.std.proofs.lemmas.Bool.{eqb-true, eq-eqb, ltb-true}
@@ -16,19 +16,38 @@ use Rattle.ras_logic.specs.declared.term.Term.{Term}
 use Rattle.ras_logic.specs.declared.literal.Literal.{Literal}
 use Rattle.ras_logic.specs.declared.literal.Literal.TheVariants.{Equal}
 use Rattle.ras_logic.specs.Shapes.{ShapeParts}
-use Rattle.ras_logic.specs.Schemas.{IsSchema, IsSort, HasSorts}
+use Rattle.ras_logic.specs.Schemas.{SchemaParts, IsSchema, IsSort, HasSorts}
 use Rattle.ras_logic.specs.Databases.{IsElement, IsTable, IsDatabase, image}
 use Rattle.ras_logic.specs.Truth.{AreValues, value_of_base, image_along, value}
 use Rattle.ras_logic.specs.Formulas.{LiteralFits}
 use Rattle.ras_logic.specs.Terms.{sort_of_base, sort_after, sort_along, sort_of, base_term, constant_term, undef_term, image_term}
 use Rattle.ras_logic.proofs.TermSorts.{and_then_through, sort_after-step, sort_of-undef, sort_of-constant, constant-sort}
 use Rattle.ras_logic.specs.Clashes.{IsTerm}
-use Rattle.ras_closure.specs.Classes.{class, AreClosed, AreConsistent}
+use Rattle.ras_closure.specs.Classes.{class, AreClosed}
 use Rattle.ras_closure.specs.Numbered.{IsAt, AreTerms}
-use Rattle.ras_closure.specs.Models.{AreNumbers, IsImage, IsTableOf, IsModelDb, IsElementOf, AreElementsOf, AreModelValues}
+use Rattle.ras_closure.specs.Images.{HasNoImage}
+use Rattle.ras_closure.specs.Models.{IsImage, IsTableOf, IsModelDb}
+use Rattle.ras_closure.specs.Values.{IsElementOf, AreElementsOf, AreModelValues}
 use Rattle.ras_closure.specs.Closures.{EachHolds}
 use Rattle.ras_closure.proofs.Prefixes.{prefix-term}
 use Rattle.ras_closure.proofs.Sorting.{from_known, HasSort, term-sorted, sort_of-image}
+
+-- undef and the constants have classes of their own, and what is apart by a fact is in two classes
+pub record AreConsistent (schema : SchemaParts) (IsFact : Literal → Type 0) (terms : List Term) (classes : List ℕ) : Type 0 where
+  pub rigid : (k : ℕ) → k < schema.sorts + length schema.constants → class classes k ≡ k
+  pub apart : (i j : ℕ) (s t : Term) → IsAt terms i s → IsAt terms j t → IsFact (Equal s t false) → class classes i ≢ class classes j
+
+-- Elements for terms: within a sort two are the same exactly where the classes are, and undef's is 0. A sort has an element
+-- above undef where an image under a total function is missing.
+pub record AreNumbers (shape : ShapeParts) (rows : List RelId) (params : List SortId) (terms : List Term) (classes : List ℕ)
+    (number : ℕ → ℕ) (size : SortId → ℕ) : Type 0 where
+  pub same : (i j : ℕ) → i < length terms → j < length terms → class classes i ≡ class classes j → number i ≡ number j
+  pub apart : (i j : ℕ) (s t : Term) (u : SortId) → IsAt terms i s → IsAt terms j t → sort_of shape rows params s ≡ Some u → sort_of shape rows params t ≡ Some u
+      → number i ≡ number j → class classes i ≡ class classes j
+  pub undefs : (s : SortId) → s.n < shape.schema.sorts → number s.n ≡ 0
+  pub within : (i : ℕ) (t : Term) (s : SortId) → IsAt terms i t → sort_of shape rows params t ≡ Some s → number i ≤ size s
+  pub room : (f : FunId) (decl : FunDecl) → slice_get shape.schema.functions f.n ≡ Some decl → decl.total ≡ true → (x : ℕ) → 0 < x → x ≤ size decl.source
+      → HasNoImage terms number f x → 0 < size decl.target
 
 module _ (shape : ShapeParts) (rows : List RelId) (params : List SortId) (ok : IsSchema shape.schema)
     (vars_sorted : All (IsSort shape.schema.sorts) shape.vars) (columns_sorted : All (λ (r : List SortId). All (IsSort shape.schema.sorts) r) shape.relations)

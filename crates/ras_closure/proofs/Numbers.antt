@@ -11,10 +11,18 @@ use Rattle.ras_logic.specs.Schemas.{IsSchema}
 use Rattle.ras_logic.specs.Formulas.{LiteralFits}
 use Rattle.ras_logic.specs.Terms.{sort_of, undef_term}
 use Rattle.ras_logic.proofs.TermSorts.{undef-sort}
-use Rattle.ras_closure.specs.Classes.{class, AreSound, AreConsistent}
+use Rattle.ras_closure.specs.Classes.{class, AreSound}
 use Rattle.ras_closure.specs.Numbered.{IsAt, AreTerms}
-use Rattle.ras_closure.specs.Models.{AreNumbers, number_of, room_of}
 use Rattle.ras_closure.proofs.Sorting.{together-sorted}
+use Rattle.ras_closure.proofs.Models.{AreConsistent, AreNumbers}
+use Rattle.ras_closure.proofs.Cases.{below_or}
+
+-- elements and a size that are alike for all sorts: a class beyond the undefs has its number's distance from them
+abbrev pub number_of : ℕ → List ℕ → ℕ → ℕ
+number_of sorts classes i = (class classes i + 1) - sorts
+
+abbrev pub room_of : ℕ → List Term → ℕ
+room_of sorts terms = (length terms + 1) - sorts
 
 module _ (shape : ShapeParts) (rows : List RelId) (params : List SortId) (ok : IsSchema shape.schema)
     (literals : List Literal) (fit : All (LiteralFits shape rows params) literals)
@@ -40,9 +48,6 @@ module _ (shape : ShapeParts) (rows : List RelId) (params : List SortId) (ok : I
     room = λ f decl known total x lt le none. roomy shape.schema.sorts refl;
   }
     where
-      below_or : (a b : ℕ) → (a < b) ⊎ (b ≤ a)
-      below_or a b = grind arith
-
       split : (i j : ℕ) (s t : Term) (u : SortId) → IsAt terms i s → IsAt terms j t → sort_of shape rows params s ≡ Some u → sort_of shape rows params t ≡ Some u
           → number_of shape.schema.sorts classes i ≡ number_of shape.schema.sorts classes j
           → (class classes i < shape.schema.sorts) ⊎ (shape.schema.sorts ≤ class classes i) → (class classes j < shape.schema.sorts) ⊎ (shape.schema.sorts ≤ class classes j)

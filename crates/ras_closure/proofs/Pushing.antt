@@ -14,6 +14,7 @@ use Rattle.ras_logic.specs.Clashes.{IsTerm}
 use Rattle.ras_closure.specs.Numbered.{IsAt, IsImageLink}
 use Rattle.ras_closure.proofs.Prefixes.{prefix-term}
 use Rattle.ras_closure.specs.Building.{IsPart, Grows, LinkFits, prefix_at, HasPrefixes}
+use Rattle.ras_closure.proofs.Cases.{some_same}
 
 pub at-push : {X : Type 0} (xs : List X) (y x : X) (i : ℕ) → slice_get (xs ++ y ∷ []) i ≡ Some x → (slice_get xs i ≡ Some x) ⊎ ((i ≡ length xs) × (y ≡ x))
 at-push [] y x zero h = inr (refl, cc)
@@ -83,9 +84,6 @@ module _ (schema : SchemaParts) (literals : List Literal) (terms : List Term) (l
           let same : w.1.0 ≡ s = some_same (sym w.1.1 ∙ old) in
           let is : t ≡ image_term s f = w.1.2 ∙ ap (λ (u : Term). image_term u f) same in
           subst (λ (m : ℕ). IsAt (terms ++ t ∷ []) m (image_term s f)) (sym (e.0 ∙ long)) (subst (λ (u : Term). IsAt (terms ++ t ∷ []) (length terms) u) is (pushed-at terms t))
-        where
-          some_same : {u w : Term} → Some u ≡ Some w → u ≡ w
-          some_same h = cc
 
 pub prefix-known : (schema : SchemaParts) (literals : List Literal) (t : Term) (k : ℕ) → IsTerm schema literals t → IsTerm schema literals (prefix_at t k)
 prefix-known schema literals t k h = prefix-term schema literals (prefix_at t k) {p = t} (refl, (drop k t.path, sym (take-append-drop k t.path))) h

@@ -24,6 +24,7 @@ use Rattle.ras_closure.specs.Building.{fixed_term, IsPart, Grows, prefix_at, Has
 use Rattle.ras_closure.proofs.Prefixes.{same_term}
 use Rattle.ras_closure.proofs.Pushing.{prefixes-grow, grows-push, pushed-at}
 use Rattle.ras_closure.proofs.Sorting.{from_known}
+use Rattle.ras_closure.proofs.Cases.{some_same}
 
 contains-second : {X : Type 0} (a b x : X) (xs : List X) → Contains xs x → Contains (a ∷ b ∷ xs) x
 contains-second a b x xs h = (suc (suc h.0), omega (arith, h.1), h.2)
@@ -195,9 +196,6 @@ fixed-fresh schema terms n long fixed i at =
     let lt : i < n = rw (← long) (slice_get_within terms i (fixed_term schema.sorts n) at) in
     let same : fixed_term schema.sorts i ≡ fixed_term schema.sorts n = some_same (sym (fixed i lt) ∙ at) in
     omega (arith, lt, fixed-different schema i n same)
-  where
-    some_same : {u w : Term} → Some u ≡ Some w → u ≡ w
-    some_same h = cc
 
 pub sides-of : (mid new : List Term) (l : Literal) → Grows mid new → HasPrefixes mid (left_of l) (length (left_of l).path) → HasPrefixes new (right_of l) (length (right_of l).path) → HasSides new l
 sides-of mid new (Equal a b s) grows left right = (prefixes-grow mid new a (length a.path) grows left, right)

@@ -9,13 +9,17 @@ use Rattle.ras_logic.specs.declared.term.Term.{Term}
 use Rattle.ras_logic.specs.Schemas.{HasSorts}
 use Rattle.ras_logic.specs.Databases.{IsElement, size_of}
 use Rattle.ras_logic.specs.Truth.{value}
-use Rattle.ras_closure.specs.Numbered.{IsAt, IsTable}
-use Rattle.ras_closure.specs.Closures.{ClosureParts, IsClosure, IsFactOf, IsSortIn, IsModelOf, LacksImage, IsSmallFor}
-use Rattle.ras_closure.specs.Models.{AreNumbers}
-use Rattle.ras_closure.specs.ModelParts.{AreSorted, number, count, IsLacking, IsNeeded, sized, IsModelBy}
+use Rattle.ras_closure.specs.Numbered.{IsAt, IsSortOf, IsTable}
+use Rattle.ras_closure.specs.Closures.{ClosureParts, IsClosure, IsFactOf}
+use Rattle.ras_closure.specs.SmallModels.{IsModelOf, LacksImage, IsSmallFor}
+use Rattle.ras_closure.specs.Models.{IsModelBy}
+use Rattle.ras_closure.specs.Elements.{AreSorted, number, count}
+use Rattle.ras_closure.specs.Spares.{IsLacking, IsNeeded, sized}
 use Rattle.ras_closure.proofs.Sorting.{from_known, together-sorted}
 use Rattle.ras_closure.proofs.Gaps.{small-numbers, numbered-elements, beyond-none}
 use Rattle.ras_closure.proofs.Assembly.{model-of, term-number}
+use Rattle.ras_closure.proofs.Models.{AreNumbers}
+use Rattle.ras_closure.proofs.Cases.{le_or, some_same, true_false}
 
 module _ (c : ClosureParts) (table : IsTable c.table) (closure : IsClosure c) (none : c.clash ≡ None) where
   pub sorted-classes : AreSorted c.table c.classes
@@ -27,12 +31,9 @@ module _ (c : ClosureParts) (table : IsTable c.table) (closure : IsClosure c) (n
     sorted = λ i j s u sort at_i at_j e is.
         let same = together-sorted c.table.shape c.table.problem.rows c.table.problem.params table.shape.schema c.table.problem.literals table.fits.literals (IsFactOf c) closure.facts_fit
         (closure.partial.sound i j s u at_i at_j e) in
-        let one : sort ≡ same.sort = some_same sort same.sort (sym is ∙ same.left) in
+        let one : sort ≡ same.sort = some_same (sym is ∙ same.left) in
         same.right ∙ ap (λ (q : SortId). Some q) (sym one);
   }
-    where
-      some_same : (p q : SortId) → Some p ≡ Some q → p ≡ q
-      some_same p q e = cc
 
   module _ (d : RawDb) (v : Values) (by : IsModelBy c.table c.classes d v) where
     numbers : AreNumbers c.table.shape c.table.problem.rows c.table.problem.params c.table.terms c.classes (number by.numbers) (sized by.counts by.spares)
@@ -46,10 +47,7 @@ module _ (c : ClosureParts) (table : IsTable c.table) (closure : IsClosure c) (n
 
     is_lacking : (b : Bool) (P : Type 0) → MatchBool b P (P → ⊥) → b ≡ true → P
     is_lacking true P h e = h
-    is_lacking false P h e = absurd (false_true e)
-      where
-        false_true : false ≡ true → ⊥
-        false_true q = cc
+    is_lacking false P h e = absurd (true_false (sym e))
 
     sorts_of : {sort : ℕ} (need : IsNeeded c.table.shape.schema.functions by.lacking by.spares sort) → HasSorts c.table.shape.schema.sorts need.decl
     sorts_of need = from_known (HasSorts c.table.shape.schema.sorts) c.table.shape.schema.functions table.shape.schema.functions need.f need.decl need.known
@@ -96,14 +94,11 @@ module _ (c : ClosureParts) (table : IsTable c.table) (closure : IsClosure c) (n
           (λ (h : x ≤ count by.counts sort).
           let named = by.numbered.named sort x above h in
           inl (named.i, named.s, named.here, named.is_sort, value-is named.i named.s named.here ∙ named.element))
-          (λ (h : count by.counts sort < x). spare sort x element is_size h (get_or by.spares sort.n false) refl) (below_or x (count by.counts sort));
+          (λ (h : count by.counts sort < x). spare sort x element is_size h (get_or by.spares sort.n false) refl) (le_or x (count by.counts sort));
     }
       where
-        below_or : (a b : ℕ) → (a ≤ b) ⊎ (b < a)
-        below_or a b = grind arith
-
         spare : (sort : SortId) (x : ℕ) → IsElement d sort x → size_of d sort ≡ sized by.counts by.spares sort → count by.counts sort < x → (b : Bool) → get_or by.spares sort.n false ≡ b
-            → ((i : ℕ) × (t : Term) × IsAt c.table.terms i t × IsSortIn c t sort × (value d v t ≡ x)) ⊎ ((x ≡ size_of d sort) × LacksImage c d v sort)
+            → ((i : ℕ) × (t : Term) × IsAt c.table.terms i t × IsSortOf c.table t sort × (value d v t ≡ x)) ⊎ ((x ≡ size_of d sort) × LacksImage c d v sort)
         spare sort x element is_size beyond true e =
             let size = rw e at is_size in
             inr (omega (arith, element, size, beyond), lacks sort (by.spared.needed sort.n e))

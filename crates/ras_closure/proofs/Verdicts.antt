@@ -1,12 +1,14 @@
 -- What speaks against one class of two, whichever is looked at first.
-use Rattle.std.proofs.Common.{◌≡◌, ℕ, ◌≤◌, List, inl, inr, ⊎_elim, refl, subst}
+use Rattle.std.proofs.Common.{◌≡◌, ℕ, ◌≤◌, List, inl, inr, ⊎_elim, refl, subst, sym}
 use Rattle.std.specs.Option.{option_or}
 use Rattle.std.specs.Prelude.{Option, Some, None, MatchOption}
 use Rattle.ras_closure.specs.declared.clash.Clash.{Clash}
 use Rattle.ras_closure.specs.Numbered.{TableParts, rigid_count}
 use Rattle.ras_closure.specs.Assertions.{MarkParts}
 use Rattle.ras_closure.specs.Classes.{class}
-use Rattle.ras_closure.specs.Saturation.{AreParted, AreUnparted, MayMerge, AreBreaking, AreUnbroken, AreClashing, IsVerdict}
+use Rattle.ras_closure.specs.Merging.{AreParted, AreUnparted, MayMerge, AreBreaking}
+use Rattle.ras_closure.specs.Verdicts.{AreUnbroken, AreClashing, IsVerdict}
+use Rattle.ras_closure.proofs.Cases.{some_same, none_some}
 
 turned : (marks : MarkParts) (classes : List ℕ) (a b : ℕ) → AreUnparted marks classes a b marks.width → AreUnparted marks classes b a marks.width
 turned marks classes a b h i lt_i e_i j lt_j e_j = let u = h j lt_j e_j i lt_i e_i in record { forth = u.back; back = u.forth }
@@ -34,26 +36,11 @@ looked_back t marks classes to from above (Some q) h = inr (parted-turned marks 
 pub verdict-or : (t : TableParts) (marks : MarkParts) (old new : List ℕ) (before found : Option Clash) → IsVerdict t marks old before
     → MatchOption found (AreUnbroken t marks old → AreUnbroken t marks new) (λ q. AreClashing t marks q.left.n q.right.n)
     → (after : Option Clash) → after ≡ option_or before found → IsVerdict t marks new after
-verdict-or t marks old new None None verdict found after e = rw e (record { unbroken = λ _. found (verdict.unbroken refl); clashing = λ q h. absurd (none_some q h) })
-  where
-    none_some : (q : Clash) → None ≡ Some q → ⊥
-    none_some q h = cc
-verdict-or t marks old new None (Some p) verdict found after e = rw e (record { unbroken = λ h. absurd (some_none h); clashing = λ q h. subst (λ (w : Clash). AreClashing t marks w.left.n w.right.n) (some_same q h) found })
-  where
-    some_none : Some p ≡ None → ⊥
-    some_none h = cc
-
-    some_same : (q : Clash) → Some p ≡ Some q → p ≡ q
-    some_same q h = cc
-verdict-or t marks old new (Some p) found verdict found_is after e = rw e (record { unbroken = λ h. absurd (some_none h); clashing = verdict.clashing })
-  where
-    some_none : Some p ≡ None → ⊥
-    some_none h = cc
+verdict-or t marks old new None None verdict found after e = rw e (record { unbroken = λ _. found (verdict.unbroken refl); clashing = λ q h. absurd (none_some h) })
+verdict-or t marks old new None (Some p) verdict found after e = rw e (record { unbroken = λ h. absurd (none_some (sym h)); clashing = λ q h. subst (λ (w : Clash). AreClashing t marks w.left.n w.right.n) (some_same h) found })
+verdict-or t marks old new (Some p) found verdict found_is after e = rw e (record { unbroken = λ h. absurd (none_some (sym h)); clashing = verdict.clashing })
 
 pub verdict-of : (t : TableParts) (marks : MarkParts) (old new : List ℕ) (found : Option Clash) → AreUnbroken t marks old
     → MatchOption found (AreUnbroken t marks old → AreUnbroken t marks new) (λ q. AreClashing t marks q.left.n q.right.n) → IsVerdict t marks new found
 verdict-of t marks old new found unbroken h =
-    verdict-or t marks old new None found (record { unbroken = λ _. unbroken; clashing = λ q e. absurd (none_some q e) }) h found refl
-  where
-    none_some : (q : Clash) → None ≡ Some q → ⊥
-    none_some q e = cc
+    verdict-or t marks old new None found (record { unbroken = λ _. unbroken; clashing = λ q e. absurd (none_some e) }) h found refl

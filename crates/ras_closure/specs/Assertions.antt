@@ -1,5 +1,5 @@
 -- What was asserted of the terms.
-use Rattle.std.specs.Prelude.{◌≡◌, ℕ, ◌+◌, ◌*◌, ◌<◌, ◌⊎◌, Bool, true, false, List, get_or}
+use Rattle.std.specs.Prelude.{ℕ, Bool, List, true, false, ◌+◌, ◌*◌, get_or, ◌≡◌, ◌<◌, ◌⊎◌}
 use Rattle.ras_logic.specs.declared.term.Term.{Term}
 use Rattle.ras_logic.specs.declared.literal.Literal.{Literal}
 use Rattle.ras_logic.specs.declared.literal.Literal.TheVariants.{Equal}

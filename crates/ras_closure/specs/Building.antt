@@ -1,12 +1,13 @@
-use Rattle.std.specs.Prelude.{◌≡◌, ℕ, ◌-◌, ◌<◌, ◌≤◌, List, [], length, take, get_or, slice_get, Some, nat_lt, if◌then◌else◌}
+-- How the list of terms grows: the terms of a problem, each with its prefixes before it.
+use Rattle.std.specs.Prelude.{ℕ, ◌-◌, nat_lt, if◌then◌else◌, ◌≡◌, ◌<◌, List, length, [], take, ◌≤◌, get_or, slice_get, Some}
 use Rattle.ras_logic.specs.declared.term.Term.{Term}
 use Rattle.ras_logic.specs.declared.literal.Literal.{Literal}
 use Rattle.ras_logic.specs.declared.literal.Literal.TheVariants.{Equal}
+use Rattle.ras_logic.specs.Terms.{constant_term, undef_term, image_term}
 use Rattle.ras_logic.specs.Schemas.{SchemaParts}
+use Rattle.ras_logic.specs.Clashes.{IsTerm}
 use Rattle.ras_closure.specs.declared.link.Link.{Link}
 use Rattle.ras_closure.specs.declared.link.Link.TheVariants.{Base, Image}
-use Rattle.ras_logic.specs.Terms.{constant_term, undef_term, image_term}
-use Rattle.ras_logic.specs.Clashes.{IsTerm}
 use Rattle.ras_closure.specs.Numbered.{IsAt, AreLinks}
 
 -- the first terms: every sort's undef, then the constants

@@ -1,5 +1,5 @@
 -- Classes of terms: for each term a number that terms of one class share.
-use Rattle.std.specs.Prelude.{◌≡◌, ◌≢◌, ℕ, ◌+◌, ◌<◌, true, false, List, length, get_or, slice_get, Some, map, nat_eq, if◌then◌else◌}
+use Rattle.std.specs.Prelude.{ℕ, List, get_or, ◌≡◌, true, slice_get, Some, ◌<◌, length, map, nat_eq, if◌then◌else◌}
 use Rattle.ras_logic.specs.declared.ids.FunId.{FunId}
 use Rattle.ras_logic.specs.declared.function.FunDecl.{FunDecl}
 use Rattle.ras_logic.specs.declared.term.Term.{Term}
@@ -23,11 +23,6 @@ pub record AreClosed (schema : SchemaParts) (IsFact : Literal → Type 0) (terms
       → class classes i ≡ class classes d.source.n → class classes k ≡ class classes d.target.n
   pub only_undef : (i k : ℕ) (t : Term) (f : FunId) (d : FunDecl) → slice_get schema.functions f.n ≡ Some d → d.total ≡ true → IsAt terms i t → IsAt terms k (image_term t f)
       → class classes k ≡ class classes d.target.n → class classes i ≡ class classes d.source.n
-
--- undef and the constants have classes of their own, and what is apart by a fact is in two classes
-pub record AreConsistent (schema : SchemaParts) (IsFact : Literal → Type 0) (terms : List Term) (classes : List ℕ) : Type 0 where
-  pub rigid : (k : ℕ) → k < schema.sorts + length schema.constants → class classes k ≡ k
-  pub apart : (i j : ℕ) (s t : Term) → IsAt terms i s → IsAt terms j t → IsFact (Equal s t false) → class classes i ≢ class classes j
 
 -- terms of one class are together
 abbrev pub AreSound : SchemaParts → List Literal → (Literal → Type 0) → List Term → List ℕ → Type 0

@@ -1,19 +1,19 @@
 -- The terms of a problem, numbered, and how each is made of an earlier one.
-use Rattle.std.specs.Prelude.{◌≡◌, ℕ, ◌+◌, ◌<◌, List, [], length, slice_get, Some}
-use Rattle.ras_logic.specs.declared.ids.FunId.{FunId}
+use Rattle.std.specs.Prelude.{◌≡◌, ℕ, List, slice_get, Some, ◌+◌, ◌<◌, length, []}
+use Rattle.ras_logic.specs.declared.term.Term.{Term}
 use Rattle.ras_logic.specs.declared.ids.SortId.{SortId}
 use Rattle.ras_logic.specs.declared.ids.ConstId.{ConstId}
-use Rattle.ras_logic.specs.declared.term.Term.{Term}
 use Rattle.ras_logic.specs.declared.literal.Literal.{Literal}
+use Rattle.ras_logic.specs.declared.ids.FunId.{FunId}
 use Rattle.ras_logic.specs.declared.problem.Problem.{Problem}
 use Rattle.ras_logic.specs.Schemas.{SchemaParts}
-use Rattle.ras_logic.specs.SchemaFaults.{HasSchemaLimits}
-use Rattle.ras_logic.specs.Shapes.{ShapeParts, IsShape}
-use Rattle.ras_logic.specs.Formulas.{Fits}
-use Rattle.ras_logic.specs.Terms.{constant_term, undef_term, image_term}
+use Rattle.ras_logic.specs.Terms.{sort_of, constant_term, undef_term, image_term}
 use Rattle.ras_logic.specs.Clashes.{IsTerm}
+use Rattle.ras_logic.specs.Shapes.{ShapeParts, IsShape}
+use Rattle.ras_logic.specs.SchemaFaults.{HasSchemaLimits}
+use Rattle.ras_logic.specs.Formulas.{Fits}
 use Rattle.ras_closure.specs.declared.link.Link.{Link}
-use Rattle.ras_closure.specs.declared.link.Link.TheVariants.{Base, Image}
+use Rattle.ras_closure.specs.declared.link.Link.TheVariants.{Image, Base}
 
 -- the term of that number
 abbrev pub IsAt : List Term → ℕ → Term → Type 0
@@ -56,3 +56,7 @@ pub record IsTable (t : TableParts) : Type 0 where
 -- how many terms are undef or a constant: the first ones
 abbrev pub rigid_count : TableParts → ℕ
 rigid_count t = t.shape.schema.sorts + length t.shape.schema.constants
+
+-- the sort of a term
+abbrev pub IsSortOf : TableParts → Term → SortId → Type 0
+IsSortOf t s sort = sort_of t.shape t.problem.rows t.problem.params s ≡ Some sort

@@ -56,6 +56,7 @@ fn place(
     ensures grows { OnOk result (Grows terms.old terms.new) }
     ensures place { IfOk result (λ i. IsAt terms.new i term) }
 {
+    // only the contract speaks of these
     let _schema = schema;
     let _problem = problem;
     if let Some(i) = position(terms, &term) {
@@ -114,6 +115,7 @@ fn place_term(
     Ok(())
 }
 
+/// The left side of a literal.
 fn left(literal: &Literal) -> &Term
     ensures { result.now ≡ left_of literal.now }
 {
@@ -122,6 +124,7 @@ fn left(literal: &Literal) -> &Term
     }
 }
 
+/// The right side of a literal.
 fn right(literal: &Literal) -> &Term
     ensures { result.now ≡ right_of literal.now }
 {
@@ -204,6 +207,7 @@ pub fn place_fixed(
     ensures part { OnOk result (IsPart schema.now problem.now.literals terms.new links.new) }
     ensures fixed { OnOk result (AreFixed schema.now.sorts terms.new (schema.now.sorts + length schema.now.constants)) }
 {
+    // only the contract speaks of it
     let _problem = problem;
     let sorts = schema.sort_count() as usize;
     for i in 0..sorts + schema.constants().len() {

@@ -32,6 +32,7 @@ impl Classes {
         Ok(Classes { numbers })
     }
 
+    /// The same classes, in memory of their own.
     pub fn copy(&self) -> Result<Classes, AllocError>
         ensures { IfOk result (λ c. c ≡ self.now) }
     {
@@ -62,6 +63,7 @@ impl Classes {
     }
 }
 
+/// The class of a term whose class was this one.
 fn renamed(class: u32, from: u32, to: u32) -> u32
     ensures { result ≡ (if nat_eq class from then to else class) }
 {

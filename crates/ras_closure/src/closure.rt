@@ -1,22 +1,23 @@
-ghost use Rattle.std.specs.Prelude.{◌≡◌, ◌↔◌, ◌<◌, ℕ, length, Some, None, IsTrue, IsSome, IsErr, true, false, OnOk, IfErr, IfOk, IfSome};
+ghost use Rattle.std.specs.Prelude.{◌≡◌, ◌↔◌, ◌<◌, ℕ, length, None, IsTrue, IsSome, IsErr, true, false, IfErr, IfOk, IfSome};
 ghost use Rattle.ras_logic.specs.declared.literal.Literal.{Literal};
 ghost use Rattle.ras_logic.specs.declared.term.Term.{Term};
 ghost use Rattle.ras_logic.specs.Formulas.{Fits};
 ghost use Rattle.ras_logic.specs.Clashes.{IsTerm};
-ghost use Rattle.ras_closure.specs.declared.clash.Clash.{Clash};
 ghost use Rattle.ras_closure.specs.Numbered.{IsAt, IsTable};
 ghost use Rattle.ras_closure.specs.Classes.{class};
-ghost use Rattle.ras_closure.specs.Closures.{ClosureParts, IsClosure, AreOfOneSort, AddsFact, IsNo, IsFactOf, AreTogetherIn, FactsClashIn, HasNoModel, NamesConflict, IsModelOf, IsSmallFor};
+ghost use Rattle.ras_closure.specs.Closures.{ClosureParts, IsClosure, AreOfOneSort, Asserts, IsNo, IsFactOf, AreTogetherIn, FactsClashIn, HasNoModel, NamesConflict};
+ghost use Rattle.ras_closure.specs.SmallModels.{IsModelOf, IsSmallFor};
 
 use crate::clash::Clash;
 use crate::classes::Classes;
 use crate::marks::Marks;
 use crate::model::{self, model_of};
+use crate::room::Room;
 use crate::saturation::{saturate, unite};
 use crate::signatures::Signatures;
 use crate::steps::Steps;
-use crate::table::TermTable;
 use crate::term_no::TermNo;
+use crate::term_table::TermTable;
 use ras_logic::{Problem, Shape, Term};
 use std::alloc::{AllocError, Global};
 use std::marker::Model;
@@ -27,6 +28,7 @@ pub struct Closure {
     table: TermTable,
     marks: Marks,
     classes: Classes,
+    // what it holds is tested when it is read, so no contract speaks of it
     signatures: Signatures,
     clash: Option<Clash>,
     steps: Steps,
@@ -46,7 +48,8 @@ impl Model for Closure {
 
 impl Closure {
     /// A closure over the terms of a problem that fits the shape, with their prefixes, every constant and every sort's
-    /// undef. Nothing is asserted yet; all memory for later assertions is taken now.
+    /// undef. Nothing is asserted yet. All memory for later assertions is taken now: two bytes for each pair of terms, and
+    /// four for each term and function. There may be at most 4,294,967,294 terms: more are refused as want of memory.
     pub fn with(alloc: Global, shape: &Shape, problem: &Problem) -> Result<Closure, AllocError>
         requires { Fits shape.now problem.now }
         ensures shape { IfOk result (λ c. c.table.shape ≡ shape.now) }
@@ -56,10 +59,12 @@ impl Closure {
     {
         let table = TermTable::new(alloc, shape, problem)?;
         table.known();
-        let terms = table.len();
-        let marks = Marks::new(alloc, terms)?;
-        let mut classes = Classes::new(alloc, terms)?;
-        let mut signatures = Signatures::new(alloc, table.function_count(), terms)?;
+        let room = Room::new(alloc, &table)?;
+        let Room {
+            marks,
+            mut classes,
+            mut signatures,
+        } = room;
         let mut steps = Steps { entries: 0 };
         let clash = saturate(
             &table,
@@ -83,10 +88,10 @@ impl Closure {
     pub fn copy(&self, alloc: Global) -> Result<Closure, AllocError>
         ensures { IfOk result (λ c. c ≡ self.now) }
     {
-        let table = self.table.copy(alloc)?;
         let marks = self.marks.copy()?;
         let classes = self.classes.copy()?;
-        let signatures = Signatures::new(alloc, table.function_count(), table.len())?;
+        let signatures = Signatures::new(alloc, self.table.function_count(), self.table.len())?;
+        let table = self.table.copy(alloc)?;
         Ok(Closure {
             table,
             marks,
@@ -105,7 +110,7 @@ impl Closure {
         self.table.known();
     }
 
-    /// The number of a term, if it is one of the closure's.
+    /// The number of a term; none where it is no term of `with`.
     pub fn term(&self, term: &Term) -> Option<TermNo>
         ensures known { IsSome result ↔ IsTerm self.now.table.shape.schema self.now.table.problem.literals term.now }
         ensures number { IfSome result (λ no. IsAt self.now.table.terms no.n term.now) }
@@ -116,7 +121,7 @@ impl Closure {
         Some(TermNo { n: i as u32 })
     }
 
-    /// Whether two terms have one sort.
+    /// Whether two terms have one sort, as an assertion of them requires.
     pub fn are_of_one_sort(&self, left: TermNo, right: TermNo) -> bool
         requires left { IsNo self.now left }
         requires right { IsNo self.now right }
@@ -127,7 +132,8 @@ impl Closure {
         left_sort == right_sort
     }
 
-    /// The class of a term: two terms have one class exactly where they are the same by what was asserted.
+    /// The class of a term, as the number of a term in it: two terms have one class exactly where they are the same by what
+    /// was asserted. A later assertion can change it.
     pub fn class_of(&self, term: TermNo) -> u32
         requires { IsNo self.now term }
         ensures class { result ≡ class self.now.classes term.n }
@@ -148,21 +154,19 @@ impl Closure {
         left_class == right_class
     }
 
-    /// The clash, if there was one.
+    /// The clash that an assertion answered, if one did: the closure is spent then.
     pub fn clash(&self) -> Option<Clash>
         ensures { result ≡ self.now.clash }
     {
         self.clash
     }
 
+    /// Adds the fact that two terms are the same, with all that follows from it.
     fn note_same(&mut self, left: TermNo, right: TermNo) -> Result<(), Clash>
         requires left { IsNo self.old left }
         requires right { IsNo self.old right }
         requires one_sort { AreOfOneSort self.old left right }
-        ensures spent { (q : Clash) → self.old.clash ≡ Some q → (result ≡ Err q) × (self.new ≡ self.old) }
-        ensures added { self.old.clash ≡ None → AddsFact self.old self.new true left right }
-        ensures ok { OnOk result (self.new.clash ≡ None) }
-        ensures clash { IfErr result (λ q. self.new.clash ≡ Some q) }
+        ensures { Asserts self.old self.new true left right result }
     {
         if let Some(clash) = self.clash {
             return Err(clash);
@@ -185,17 +189,15 @@ impl Closure {
         }
     }
 
+    /// Adds the fact that two terms are not the same.
     fn note_apart(&mut self, left: TermNo, right: TermNo) -> Result<(), Clash>
         requires left { IsNo self.old left }
         requires right { IsNo self.old right }
         requires one_sort { AreOfOneSort self.old left right }
-        ensures spent { (q : Clash) → self.old.clash ≡ Some q → (result ≡ Err q) × (self.new ≡ self.old) }
-        ensures added { self.old.clash ≡ None → AddsFact self.old self.new false left right }
-        ensures ok { OnOk result (self.new.clash ≡ None) }
-        ensures clash { IfErr result (λ q. self.new.clash ≡ Some q) }
+        ensures { Asserts self.old self.new false left right result }
     {
-        if let Some(clash) = self.clash {
-            return Err(clash);
+        if let Some(earlier) = self.clash {
+            return Err(earlier);
         }
         self.table.known();
         self.marks.note(false, left.n as usize, right.n as usize);
@@ -209,23 +211,21 @@ impl Closure {
         Ok(())
     }
 
-    /// How many entries of its tables the closure has looked at.
+    /// How many entries of its tables the closure has looked at in all assertions.
     #[cfg(test)]
     pub fn steps(&self) -> u64 {
         self.steps.entries
     }
 
-    /// Asserts that two terms of one sort are the same. A clash comes exactly where nothing satisfies what was asserted;
-    /// it names two terms that were put together and can't be the same. After a clash the closure is spent: it takes no
-    /// assertion, and answers the same clash.
+    /// Asserts that two terms of one sort are the same. A clash comes exactly where nothing satisfies what was asserted
+    /// with this; it names two terms that must be the same, and were asserted apart, or are two constants, or a constant
+    /// and undef. After a clash the closure is spent: it takes no assertion, and answers the same clash. It takes no
+    /// memory.
     pub fn add_same(&mut self, left: TermNo, right: TermNo) -> Result<(), Clash>
         requires left { IsNo self.old left }
         requires right { IsNo self.old right }
         requires one_sort { AreOfOneSort self.old left right }
-        ensures spent { (q : Clash) → self.old.clash ≡ Some q → (result ≡ Err q) × (self.new ≡ self.old) }
-        ensures added { self.old.clash ≡ None → AddsFact self.old self.new true left right }
-        ensures ok { OnOk result (self.new.clash ≡ None) }
-        ensures clash { IfErr result (λ q. self.new.clash ≡ Some q) }
+        ensures asserted { Asserts self.old self.new true left right result }
         ensures no_model { IsErr result ↔ HasNoModel self.new }
         ensures facts_clash { IsErr result ↔ FactsClashIn self.new }
         ensures conflict { IfErr result (NamesConflict self.new) }
@@ -240,10 +240,7 @@ impl Closure {
         requires left { IsNo self.old left }
         requires right { IsNo self.old right }
         requires one_sort { AreOfOneSort self.old left right }
-        ensures spent { (q : Clash) → self.old.clash ≡ Some q → (result ≡ Err q) × (self.new ≡ self.old) }
-        ensures added { self.old.clash ≡ None → AddsFact self.old self.new false left right }
-        ensures ok { OnOk result (self.new.clash ≡ None) }
-        ensures clash { IfErr result (λ q. self.new.clash ≡ Some q) }
+        ensures asserted { Asserts self.old self.new false left right result }
         ensures no_model { IsErr result ↔ HasNoModel self.new }
         ensures facts_clash { IsErr result ↔ FactsClashIn self.new }
         ensures conflict { IfErr result (NamesConflict self.new) }
@@ -254,7 +251,7 @@ impl Closure {
     }
 
     /// A small model of what was asserted: one element for each class of its sort other than undef's, and one more in a
-    /// sort where an image under a total function is missing.
+    /// sort where an image under a total function is missing. Condition: there is no clash.
     pub fn model(&self, alloc: Global) -> Result<model::Model, AllocError>
         requires { self.now.clash ≡ None }
         ensures model { IfOk result (λ m. IsModelOf self.now m.db m.values) }

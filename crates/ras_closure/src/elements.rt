@@ -1,8 +1,9 @@
 ghost use Rattle.std.specs.Prelude.{◌≡◌, ℕ, ◌+◌, ◌<◌, length, IfOk, ◌++◌, ◌∷◌, []};
-ghost use Rattle.ras_closure.specs.ModelParts.{AreSorted, AreNumbered};
+ghost use Rattle.ras_closure.specs.Elements.{count, AreSorted, AreNumbered};
 
 use crate::classes::Classes;
-use crate::table::TermTable;
+use crate::term_table::TermTable;
+use ras_logic::SortId;
 use std::alloc::{AllocError, Global};
 
 /// For each term the number of its element in a finite model, and for each sort how many elements its classes have. The
@@ -11,6 +12,16 @@ use std::alloc::{AllocError, Global};
 pub struct Elements {
     pub numbers: Vec<u32>,
     pub counts: Vec<u32>,
+}
+
+impl Elements {
+    /// How many elements the classes of a sort have.
+    pub fn count_of(&self, sort: SortId) -> u32
+        requires { sort.n < length self.now.counts.items }
+        ensures { result ≡ count self.now.counts.items sort }
+    {
+        self.counts[sort.n as usize]
+    }
 }
 
 /// The element of a term: undef's, that of an earlier term of its class, or the next one of its sort.

@@ -1,12 +1,14 @@
 ghost use Rattle.std.specs.Prelude.{◌≡◌, ◌≢◌, ℕ, ◌<◌, ◌≤◌, length, sum, MatchOption};
 ghost use Rattle.ras_closure.specs.Classes.{class, Coarsens};
-ghost use Rattle.ras_closure.specs.Saturation.{ArePartial, AreTogether, AreUnbroken, AreClashing, AreParted, IsUnparted, AreUnparted, MayMerge, AreBreaking};
+ghost use Rattle.ras_closure.specs.Partitions.{ArePartial, AreTogether};
+ghost use Rattle.ras_closure.specs.Verdicts.{AreUnbroken, AreClashing};
+ghost use Rattle.ras_closure.specs.Merging.{AreParted, IsUnparted, AreUnparted, MayMerge, AreBreaking};
 
 use crate::clash::Clash;
 use crate::classes::Classes;
 use crate::marks::Marks;
 use crate::steps::Steps;
-use crate::table::TermTable;
+use crate::term_table::TermTable;
 
 /// The term and one of the class that were asserted apart.
 fn parted_from(marks: &Marks, classes: &Classes, i: usize, other: u32) -> Option<Clash>

@@ -1,11 +1,14 @@
 ghost use Rattle.std.specs.Prelude.{◌≡◌, ℕ, ◌+◌, ◌<◌, length, get_or, IfOk};
 ghost use Rattle.ras_logic.specs.declared.ids.SortId.{SortId};
-ghost use Rattle.ras_closure.specs.ModelParts.{AreSorted, number, HaveElements, sized, IsModelBy};
+ghost use Rattle.ras_closure.specs.Elements.{AreSorted, number, HaveElements};
+ghost use Rattle.ras_closure.specs.Spares.{sized};
+ghost use Rattle.ras_closure.specs.Models.{IsModelBy};
 
 use crate::classes::Classes;
 use crate::elements::{Elements, number_terms};
-use crate::table::TermTable;
-use crate::tables::{lacking_functions, size, spare_sorts, tables};
+use crate::function_tables::tables;
+use crate::spares::{lacking_functions, size, spare_sorts};
+use crate::term_table::TermTable;
 use crate::values::values;
 use ras_logic::{List, RawDb, Values};
 use std::alloc::{AllocError, Global};
@@ -17,6 +20,7 @@ pub struct Model {
     pub values: Values,
 }
 
+/// How many elements each sort has.
 fn sizes(
     alloc: Global,
     table: &TermTable,
@@ -35,6 +39,7 @@ fn sizes(
     Ok(sizes)
 }
 
+/// The element of each constant.
 fn constants(alloc: Global, table: &TermTable, numbers: &[u32]) -> Result<List<u32>, AllocError>
     requires { length numbers.now ≡ length table.now.terms }
     ensures all { IfOk result (λ r. length r ≡ length table.now.shape.schema.constants) }

@@ -1,7 +1,10 @@
 ghost use Rattle.std.specs.Prelude.{◌≡◌, ◌↔◌, ℕ, ◌<◌, ◌≤◌, length, IsTrue, MatchOption};
 ghost use Rattle.ras_closure.specs.Classes.{class, Coarsens};
 ghost use Rattle.ras_closure.specs.Numbered.{IsImageLink};
-ghost use Rattle.ras_closure.specs.Saturation.{IsForcedPair, AreUndefRules, IsSaturated, IsImageOf, MeetsImage, MeetsAt, AreBelow, ArePartial, AreTogether, AreUnbroken, IsVerdict, IsRest};
+ghost use Rattle.ras_closure.specs.Rules.{IsForcedPair, AreUndefRules, IsSaturated};
+ghost use Rattle.ras_closure.specs.Signatures.{IsImageOf, MeetsImage, MeetsAt};
+ghost use Rattle.ras_closure.specs.Partitions.{AreBelow, ArePartial, AreTogether, IsRest};
+ghost use Rattle.ras_closure.specs.Verdicts.{AreUnbroken, IsVerdict};
 
 use crate::clash::Clash;
 use crate::classes::Classes;
@@ -11,7 +14,7 @@ use crate::merging::merge;
 use crate::pair::Pair;
 use crate::signatures::Signatures;
 use crate::steps::Steps;
-use crate::table::TermTable;
+use crate::term_table::TermTable;
 use ras_logic::FunId;
 
 /// Two terms that one of the rules for undef puts together.

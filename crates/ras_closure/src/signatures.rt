@@ -1,11 +1,12 @@
 ghost use Rattle.std.specs.Prelude.{◌≡◌, ◌+◌, ◌*◌, ◌<◌, ◌≤◌, length, IfOk, slice_set};
-ghost use Rattle.ras_closure.specs.Saturation.{SignatureParts, signature};
+ghost use Rattle.ras_closure.specs.Signatures.{SignatureParts, signature};
 
 use std::alloc::{AllocError, Global};
 use std::marker::Model;
 
-/// For each function and class of terms an image by the function of a term of the class, if one was met. What is kept of
-/// classes that have changed since may be stale, and is looked at again when it is read.
+/// For each function and class of terms an image by the function of a term of the class, if one was met: a second image is
+/// found to have the same signature without a look at all pairs. What was put before classes changed may be stale, so a
+/// reader tests what it finds.
 #[derive(Debug, Drop)]
 pub struct Signatures {
     functions: usize,
@@ -15,7 +16,7 @@ pub struct Signatures {
 
 impl Model for Signatures {
     ghost use Rattle.std.specs.Prelude.{◌≡◌, ◌*◌, length};
-    ghost use Rattle.ras_closure.specs.Saturation.{SignatureParts};
+    ghost use Rattle.ras_closure.specs.Signatures.{SignatureParts};
 
     ghost Value = { SignatureParts };
 
@@ -57,6 +58,7 @@ impl Signatures {
         self.images[self.place(function, class)]
     }
 
+    /// Puts an image for the function and the class.
     pub fn put(&mut self, function: usize, class: usize, image: u32)
         requires function { function < self.old.functions }
         requires class { class < self.old.width }
@@ -66,6 +68,7 @@ impl Signatures {
         self.images[place] = image;
     }
 
+    /// Where the image for a function and a class stands.
     fn place(&self, function: usize, class: usize) -> usize
         requires function { function < self.now.functions }
         requires class { class < self.now.width }

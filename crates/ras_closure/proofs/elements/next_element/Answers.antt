@@ -1,6 +1,6 @@
 use Rattle.std.proofs.Common.{◌+◌, ◌<◌, ◌≤◌, refl, arith, ap}
 use Rattle.ras_closure.specs.Classes.{class}
-use Rattle.ras_closure.specs.ModelParts.{number}
+use Rattle.ras_closure.specs.Elements.{number}
 use Rattle.ras_closure.proofs.Merges.{term_at}
 use Rattle.ras_closure.proofs.Counting.{undef-numbered, known-numbered, new-numbered}
 use Rattle.ras_closure.proofs.elements.next_element.Goals as goal

@@ -1,5 +1,5 @@
 use Rattle.std.proofs.Common.{◌≡◌, ℕ, length, arith, subst}
-use Rattle.ras_closure.specs.ModelParts.{AreNumbered}
+use Rattle.ras_closure.specs.Elements.{AreNumbered}
 use Rattle.ras_closure.proofs.elements.number_terms.Goals as goal
 
 pub returns : goal.returns

@@ -1,4 +1,4 @@
-use Rattle.ras_closure.specs.ModelParts.{AreNumbered}
+use Rattle.ras_closure.specs.Elements.{AreNumbered}
 use Rattle.ras_closure.proofs.elements.number_terms.Given as goal
 
 abbrev pub invariant-loop-i : goal.invariant-loop-i

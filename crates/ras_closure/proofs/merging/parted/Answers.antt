@@ -1,6 +1,6 @@
 use Rattle.std.proofs.Common.{◌≡◌, ℕ, ◌∙◌, below_more}
 use Rattle.ras_closure.specs.Classes.{class}
-use Rattle.ras_closure.specs.Saturation.{IsUnparted}
+use Rattle.ras_closure.specs.Merging.{IsUnparted}
 use Rattle.ras_closure.proofs.merging.parted.Goals as goal
 use Rattle.ras_closure.proofs.merging.parted.Goals.{then-of-a+in_default, else-of-a}
 

@@ -1,4 +1,4 @@
-use Rattle.ras_closure.specs.Saturation.{AreUnparted}
+use Rattle.ras_closure.specs.Merging.{AreUnparted}
 use Rattle.ras_closure.proofs.merging.parted.Given as goal
 
 abbrev pub invariant-loop-i : goal.invariant-loop-i

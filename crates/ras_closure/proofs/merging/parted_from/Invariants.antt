@@ -1,4 +1,4 @@
-use Rattle.ras_closure.specs.Saturation.{IsUnparted}
+use Rattle.ras_closure.specs.Merging.{IsUnparted}
 use Rattle.ras_closure.proofs.merging.parted_from.Given as goal
 
 abbrev pub invariant-loop-j : goal.invariant-loop-j

@@ -1,5 +1,5 @@
 use Rattle.std.proofs.Common.{◌≡◌, ℕ, ◌+◌, ◌<◌, length, get_or}
-use Rattle.ras_closure.specs.ModelParts.{number}
+use Rattle.ras_closure.specs.Elements.{number}
 use Rattle.ras_closure.proofs.model.constants.Given as goal
 
 abbrev pub invariant-loop-i : goal.invariant-loop-i

@@ -1,6 +1,8 @@
 use Rattle.std.proofs.Common.{◌≡◌, ◌+◌, ℕ, Bool, List, get_or, subst}
-use Rattle.ras_closure.specs.Models.{AreTables, AreModelValues}
-use Rattle.ras_closure.specs.ModelParts.{number, sized, AreSpares}
+use Rattle.ras_closure.specs.Models.{AreTables}
+use Rattle.ras_closure.specs.Values.{AreModelValues}
+use Rattle.ras_closure.specs.Elements.{number}
+use Rattle.ras_closure.specs.Spares.{sized, AreSpares}
 use Rattle.ras_closure.proofs.Gaps.{numbered-elements}
 use Rattle.ras_closure.proofs.model.model_of.Goals as goal
 

@@ -1,6 +1,6 @@
 use Rattle.std.proofs.Common.{◌≡◌, ◌<◌, length, get_or}
 use Rattle.ras_logic.specs.declared.ids.SortId.{SortId}
-use Rattle.ras_closure.specs.ModelParts.{sized}
+use Rattle.ras_closure.specs.Spares.{sized}
 use Rattle.ras_closure.proofs.model.sizes.Given as goal
 
 abbrev pub invariant-loop-sort : goal.invariant-loop-sort

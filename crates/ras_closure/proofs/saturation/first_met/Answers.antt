@@ -1,6 +1,7 @@
-use Rattle.std.proofs.Common.{◌≡◌, ℕ, true, false, subst, sym, ◌∙◌}
-use Rattle.ras_closure.specs.Saturation.{IsImageOf, MeetsImage}
+use Rattle.std.proofs.Common.{ℕ, subst, sym, ◌∙◌}
+use Rattle.ras_closure.specs.Signatures.{IsImageOf, MeetsImage}
 use Rattle.ras_closure.proofs.MetImages.{meets-put, meets-known}
+use Rattle.ras_closure.proofs.Cases.{true_false}
 use Rattle.ras_closure.proofs.saturation.first_met.Goals as goal
 
 pub returns-then-is_image_of : goal.returns-then-is_image_of
@@ -19,6 +20,3 @@ returns c =
     (meets-put c.args.table.now c.args.classes.now c.args.signatures.now c.args.function c.args.class c.args.i c.known-2.ensures
     (rw c.requires.functions (c.known.ensures.links.of_functions c.args.i c.requires.image.of c.args.function c.requires.image.link)) (rw c.requires.width c.requires.below) c.requires.image
     (λ h. true_false (sym (c.is_image_of.ensures.1 (subst (λ (k : ℕ). IsImageOf c.args.table.now c.args.classes.now c.args.function c.args.class k) (sym c.image-met.ensures) h)) ∙ c.if-is_image_of.false)))
-  where
-    true_false : true ≡ false → ⊥
-    true_false e = cc

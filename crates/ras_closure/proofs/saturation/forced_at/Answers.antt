@@ -1,5 +1,5 @@
 use Rattle.std.proofs.Common.{ℕ, sym, ◌∙◌, subst}
-use Rattle.ras_closure.specs.Saturation.{MeetsImage}
+use Rattle.ras_closure.specs.Signatures.{MeetsImage}
 use Rattle.ras_closure.proofs.MetImages.{meets-base, meets-at, met-forced}
 use Rattle.ras_closure.proofs.saturation.forced_at.Goals as goal
 

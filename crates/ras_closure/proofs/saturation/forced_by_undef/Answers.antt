@@ -1,5 +1,5 @@
 use Rattle.std.proofs.Common.{◌∙◌, sym}
-use Rattle.ras_closure.specs.Saturation.{by_undef, by_total}
+use Rattle.ras_closure.specs.Rules.{by_undef, by_total}
 use Rattle.ras_closure.proofs.saturation.forced_by_undef.Goals as goal
 
 pub returns-then-image-undef_image : goal.returns-then-image-undef_image

@@ -1,5 +1,5 @@
 use Rattle.std.proofs.Common.{◌≡◌, length}
-use Rattle.ras_closure.specs.Saturation.{AreMet}
+use Rattle.ras_closure.specs.Signatures.{AreMet}
 use Rattle.ras_closure.proofs.saturation.forced_pair.Given as goal
 
 abbrev pub invariant-loop-i : goal.invariant-loop-i

@@ -1,7 +1,8 @@
 use Rattle.std.proofs.Common.{◌≡◌, length}
 use Rattle.std.specs.Prelude.{sum}
 use Rattle.ras_closure.specs.Classes.{Coarsens}
-use Rattle.ras_closure.specs.Saturation.{ArePartial, IsVerdict}
+use Rattle.ras_closure.specs.Partitions.{ArePartial}
+use Rattle.ras_closure.specs.Verdicts.{IsVerdict}
 use Rattle.ras_closure.proofs.saturation.saturate.Given as goal
 
 abbrev pub invariant-loop-pair : goal.invariant-loop-pair

@@ -2,9 +2,9 @@ use Rattle.std.proofs.Common.{◌<◌, ℕ, ◌∷◌, [], length, get_or, arith
 use Rattle.std.proofs.lemmas.Option.{slice_get-get_or}
 use Rattle.ras_logic.specs.declared.ids.RelId.{RelId}
 use Rattle.ras_logic.specs.declared.term.Base.TheVariants.{Cell}
-use Rattle.ras_closure.specs.Models.{AreElementsOf}
-use Rattle.ras_closure.specs.ModelParts.{number}
-use Rattle.ras_closure.proofs.Images.{rows-more}
+use Rattle.ras_closure.specs.Values.{AreElementsOf}
+use Rattle.ras_closure.specs.Elements.{number}
+use Rattle.ras_closure.proofs.FoundImages.{rows-more}
 use Rattle.ras_closure.proofs.values.rows.Goals as goal
 
 pub loop-k-preserved : goal.loop-k-preserved

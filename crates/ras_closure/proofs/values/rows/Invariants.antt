@@ -1,6 +1,6 @@
 use Rattle.std.proofs.Common.{◌≡◌, length}
-use Rattle.ras_closure.specs.Models.{AreRowsWith}
-use Rattle.ras_closure.specs.ModelParts.{number}
+use Rattle.ras_closure.specs.Values.{AreRowsWith}
+use Rattle.ras_closure.specs.Elements.{number}
 use Rattle.ras_closure.proofs.values.rows.Given as goal
 
 abbrev pub invariant-loop-k : goal.invariant-loop-k

@@ -1,6 +1,7 @@
 use Rattle.std.proofs.Common.{◌≡◌, subst, sym}
 use Rattle.std.specs.Prelude.{None}
-use Rattle.ras_closure.specs.Closures.{ClosureParts, IsModelOf, IsSmallFor}
+use Rattle.ras_closure.specs.Closures.{ClosureParts}
+use Rattle.ras_closure.specs.SmallModels.{IsModelOf, IsSmallFor}
 use Rattle.ras_closure.proofs.SmallModels.{sorted-classes, small-model, small-for}
 use Rattle.ras_closure.proofs.closure.Closure.model.Goals as goal
 

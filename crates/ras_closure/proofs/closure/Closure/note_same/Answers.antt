@@ -1,4 +1,4 @@
-use Rattle.std.proofs.Common.{◌∙◌, sym, subst, refl, true}
+use Rattle.std.proofs.Common.{◌∙◌, sym, subst, refl, true, rules}
 use Rattle.ras_closure.specs.Closures.{ClosureParts, IsNo, AreOfOneSort, AddsFact}
 use Rattle.ras_closure.proofs.Closures.{marks-partial, marks-together, marks-unbroken, marks-facts, closure-same}
 use Rattle.ras_closure.proofs.closure.Closure.note_same.Goals as goal
@@ -34,12 +34,18 @@ invariant_of-self c =
       unite.functions ∙ c.self.invariant.2,
     )
 
-pub returns-clause-added : goal.returns-clause-added
-returns-clause-added c = λ none.
+pub returns : goal.returns
+returns c =
     let old : ClosureParts = record { table = c.self.inside.table; marks = c.self.inside.marks; classes = c.self.inside.classes; clash = c.self.inside.clash } in
     let lt_left : IsNo old c.args.left = subst (λ (o : ClosureParts). IsNo o c.args.left) (sym c.self.view_is) c.requires.left in
     let lt_right : IsNo old c.args.right = subst (λ (o : ClosureParts). IsNo o c.args.right) (sym c.self.view_is) c.requires.right in
     let one_sort : AreOfOneSort old c.args.left c.args.right = subst (λ (o : ClosureParts). AreOfOneSort o c.args.left c.args.right) (sym c.self.view_is) c.requires.one_sort in
     let new : ClosureParts = record { table = c.self.inside.table; marks = c.note.new.self; classes = c.unite-clash.new.classes; clash = c.unite-clash.result } in
-    subst (λ (o : ClosureParts). AddsFact o new true c.args.left c.args.right) c.self.view_is
-    (marks-facts old c.known.ensures c.self.invariant.0 c.note.new.self true c.args.left c.args.right lt_left lt_right one_sort c.note.ensures c.unite-clash.new.classes c.unite-clash.result)
+    record {
+      spent = search rules;
+      added = λ none.
+          subst (λ (o : ClosureParts). AddsFact o new true c.args.left c.args.right) c.self.view_is
+          (marks-facts old c.known.ensures c.self.invariant.0 c.note.new.self true c.args.left c.args.right lt_left lt_right one_sort c.note.ensures c.unite-clash.new.classes c.unite-clash.result);
+      ok = search rules;
+      clash = search rules;
+    }
