@@ -26,7 +26,7 @@ AreJoined classes a b i j =
     (class classes i ≡ class classes j)
     ⊎ (((class classes i ≡ class classes a) × (class classes j ≡ class classes b)) ⊎ ((class classes i ≡ class classes b) × (class classes j ≡ class classes a)))
 
--- the classes of a and b became one, and no others did
+-- no classes but those of a and b became one, and where these two differed, the sum of the class numbers fell
 pub record Unites (old new : List ℕ) (a b : ℕ) : Type 0 where
   pub as_many : length new ≡ length old
   pub smaller : class old a ≢ class old b → sum new < sum old
@@ -35,12 +35,12 @@ pub record Unites (old new : List ℕ) (a b : ℕ) : Type 0 where
 abbrev pub IsImage : List Entry → ℕ → ℕ → FunId → Type 0
 IsImage es i of f = slice_get es i ≡ Some (Image of f)
 
--- the sides of the facts that say this, the same or not the same, are in one class or not as they say
+-- each fact of this kind, those that say the same or those that say not the same, has its sides in one class or in two as it says
 abbrev pub MeetFacts : List Literal → List Pair → List ℕ → Bool → Type 0
 MeetFacts facts sides classes same = (k : ℕ) (fact : Literal) (pair : Pair) → slice_get facts k ≡ Some fact → slice_get sides k ≡ Some pair → same_of fact ≡ same
     → nat_eq (class classes pair.left) (class classes pair.right) ≡ same
 
--- the sides of a fact that says this are in one class or not, and not as it says
+-- the sides of a fact of this kind, whose classes are not as it says
 pub record IsUnmet (facts : List Literal) (sides : List Pair) (classes : List ℕ) (same : Bool) (pair : Pair) : Type 0 where
   pub place : ℕ
   pub fact : Literal

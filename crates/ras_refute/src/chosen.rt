@@ -45,7 +45,7 @@ pub fn are_rows_of(premise: &[RelId], formula: &[RelId], chosen: &[u32]) -> bool
     true
 }
 
-/// The base with the formula's row replaced by the chosen one.
+/// The base with the formula's row replaced by the chosen one, or by row 0 where the formula has no such row.
 fn chosen_base(base: Base, chosen: &[u32]) -> Base
     requires { All (λ k. k < 2 ^ 16) chosen.now }
     ensures { base_term result ≡ chosen_row chosen.now base }

@@ -8,7 +8,8 @@ use crate::sides::says_same;
 use crate::table::Table;
 use ras_logic::Literal;
 
-/// Whether a fact says this, and its sides are in one class or not, but not as it says.
+/// Whether a fact is of this kind, those that say the same or those that say not the same, and the classes of its sides are
+/// not as it says.
 fn is_unmet(fact: &Literal, pair: Pair, classes: &[u32], same: bool) -> bool
     requires left { pair.left < length classes.now }
     requires right { pair.right < length classes.now }
@@ -18,8 +19,8 @@ fn is_unmet(fact: &Literal, pair: Pair, classes: &[u32], same: bool) -> bool
     says_same(fact) == same && together != same
 }
 
-/// The sides of the first fact that says this, the same or not the same, which are in one class or not, but not as it
-/// says.
+/// The sides of the first fact of this kind, those that say the same or those that say not the same, whose classes are not
+/// as it says.
 pub fn unmet_fact(facts: &[Literal], table: &Table, classes: &[u32], same: bool) -> Option<Pair>
     requires numbers { AreAllSides table.now.entries facts.now table.now.sides }
     requires as_many { length classes.now ≡ length table.now.entries }
