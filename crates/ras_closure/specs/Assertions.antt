@@ -1,21 +1,23 @@
 -- What was asserted of the terms.
-use Rattle.std.specs.Prelude.{ℕ, Bool, List, true, false, ◌+◌, ◌*◌, get_or, ◌≡◌, ◌<◌, ◌⊎◌}
+use Rattle.std.specs.Prelude.{◌≡◌, ℕ, ◌+◌, ◌*◌, ◌<◌, ◌⊎◌, Bool, true, false, List, get_or}
 use Rattle.ras_logic.specs.declared.term.Term.{Term}
 use Rattle.ras_logic.specs.declared.literal.Literal.{Literal}
 use Rattle.ras_logic.specs.declared.literal.Literal.TheVariants.{Equal}
 use Rattle.ras_logic.specs.Formulas.{LiteralFits}
 use Rattle.ras_closure.specs.Numbered.{IsAt, TableParts}
 
--- for each pair of terms, whether they were asserted the same, and apart
+-- the tables over pairs of terms, row by row: whether they were asserted the same, and whether apart
 pub record MarkParts : Type 0 where
   pub width : ℕ
   pub same : List Bool
   pub apart : List Bool
 
+-- the table of what was asserted the same, or that of what was asserted apart
 abbrev pub marks_of : MarkParts → Bool → List Bool
 marks_of marks true = marks.same
 marks_of marks false = marks.apart
 
+-- whether the pair was asserted the same, or apart
 abbrev pub is_marked : MarkParts → Bool → ℕ → ℕ → Bool
 is_marked marks same i j = get_or (marks_of marks same) (i * marks.width + j) false
 

@@ -1,5 +1,5 @@
 -- How the list of terms grows: the terms of a problem, each with its prefixes before it.
-use Rattle.std.specs.Prelude.{ℕ, ◌-◌, nat_lt, if◌then◌else◌, ◌≡◌, ◌<◌, List, length, [], take, ◌≤◌, get_or, slice_get, Some}
+use Rattle.std.specs.Prelude.{◌≡◌, ℕ, ◌-◌, ◌<◌, ◌≤◌, List, [], length, take, get_or, slice_get, nat_lt, Some, if◌then◌else◌}
 use Rattle.ras_logic.specs.declared.term.Term.{Term}
 use Rattle.ras_logic.specs.declared.literal.Literal.{Literal}
 use Rattle.ras_logic.specs.declared.literal.Literal.TheVariants.{Equal}
@@ -14,7 +14,7 @@ use Rattle.ras_closure.specs.Numbered.{IsAt, AreLinks}
 abbrev pub fixed_term : ℕ → ℕ → Term
 fixed_term sorts i = if nat_lt i sorts then undef_term (record { n = i }) else constant_term (record { n = i - sorts })
 
--- a table of terms on the way
+-- terms and their links on the way: all are terms of the literals, each once
 pub record IsPart (schema : SchemaParts) (literals : List Literal) (terms : List Term) (links : List Link) : Type 0 where
   pub known : (i : ℕ) (t : Term) → IsAt terms i t → IsTerm schema literals t
   pub different : (i j : ℕ) (t : Term) → IsAt terms i t → IsAt terms j t → i ≡ j
@@ -30,6 +30,7 @@ abbrev pub LinkFits : SchemaParts → List Term → Term → Link → Type 0
 LinkFits schema terms t Base = t.path ≡ []
 LinkFits schema terms t (Image of f) = (f.n < length schema.functions) × ((s : Term) × IsAt terms of s × (t ≡ image_term s f))
 
+-- the first part of a term, with so many functions
 abbrev pub prefix_at : Term → ℕ → Term
 prefix_at t k = record { base = t.base; path = take k t.path }
 
@@ -53,9 +54,11 @@ SidesKnown schema literals (Equal left right same) = IsTerm schema literals left
 abbrev pub AreFixed : ℕ → List Term → ℕ → Type 0
 AreFixed sorts terms n = (i : ℕ) → i < n → IsAt terms i (fixed_term sorts i)
 
+-- the sides of the first literals are in the list
 abbrev pub HaveSides : List Term → List Literal → ℕ → Type 0
 HaveSides terms literals n = (k : ℕ) (l : Literal) → k < n → slice_get literals k ≡ Some l → HasSides terms l
 
+-- the left side of a literal, and the right side
 abbrev pub left_of : Literal → Term
 left_of (Equal a b s) = a
 

@@ -1,5 +1,5 @@
 -- Classes of terms: for each term a number that terms of one class share.
-use Rattle.std.specs.Prelude.{ℕ, List, get_or, ◌≡◌, true, slice_get, Some, ◌<◌, length, map, nat_eq, if◌then◌else◌}
+use Rattle.std.specs.Prelude.{◌≡◌, ℕ, ◌<◌, true, List, length, map, get_or, slice_get, nat_eq, Some, if◌then◌else◌}
 use Rattle.ras_logic.specs.declared.ids.FunId.{FunId}
 use Rattle.ras_logic.specs.declared.function.FunDecl.{FunDecl}
 use Rattle.ras_logic.specs.declared.term.Term.{Term}

@@ -1,5 +1,5 @@
 -- What a closure is: the terms of a problem, what was asserted of them, their classes, and the clash if there is one.
-use Rattle.std.specs.Prelude.{ℕ, List, Option, None, Result, Err, OnOk, IfErr, ◌<◌, length, ◌≡◌, Some, Bool, ◌⊎◌, ◌↔◌, IsTrue, ◌≢◌, false}
+use Rattle.std.specs.Prelude.{◌≡◌, ◌≢◌, ℕ, ◌<◌, ◌⊎◌, ◌↔◌, Bool, false, List, length, Option, Some, None, Result, Err, OnOk, IfErr, IsTrue}
 use Rattle.ras_logic.specs.declared.literal.Literal.{Literal}
 use Rattle.ras_logic.specs.declared.term.Term.{Term}
 use Rattle.ras_logic.specs.declared.ids.SortId.{SortId}

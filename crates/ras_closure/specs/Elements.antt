@@ -13,9 +13,11 @@ pub record AreSorted (t : TableParts) (classes : List ℕ) : Type 0 where
   pub rigid : (k : ℕ) → k < rigid_count t → class classes k ≡ k
   pub sorted : (i j : ℕ) (s u : Term) (sort : SortId) → IsAt t.terms i s → IsAt t.terms j u → class classes i ≡ class classes j → IsSortOf t s sort → IsSortOf t u sort
 
+-- the element of a term
 abbrev pub number : List ℕ → ℕ → ℕ
 number numbers i = get_or numbers i 0
 
+-- how many elements the classes of a sort have
 abbrev pub count : List ℕ → SortId → ℕ
 count counts s = get_or counts s.n 0
 

@@ -1,5 +1,5 @@
--- What speaks against one class of two.
-use Rattle.std.specs.Prelude.{◌≡◌, ℕ, ◌<◌, ◌⊎◌, true, false, List, ◌≤◌}
+-- When two classes may become one, and what speaks against it.
+use Rattle.std.specs.Prelude.{◌≡◌, ℕ, ◌<◌, ◌≤◌, ◌⊎◌, true, false, List}
 use Rattle.ras_closure.specs.declared.clash.Clash.{Clash}
 use Rattle.ras_closure.specs.Numbered.{TableParts, rigid_count}
 use Rattle.ras_closure.specs.Assertions.{MarkParts, is_marked}

@@ -1,5 +1,5 @@
 -- The database and values that elements for terms and a size for each sort give.
-use Rattle.std.specs.Prelude.{if◌then◌else◌, ◌≡◌, ℕ, ◌<◌, List, length, slice_get, Some, ◌⊎◌, ◌+◌, get_or, Bool, []}
+use Rattle.std.specs.Prelude.{◌≡◌, ℕ, ◌+◌, ◌<◌, ◌⊎◌, Bool, List, [], length, get_or, slice_get, Some, if◌then◌else◌}
 use Rattle.ras_logic.specs.declared.ids.FunId.{FunId}
 use Rattle.ras_logic.specs.declared.ids.SortId.{SortId}
 use Rattle.ras_logic.specs.declared.function.FunDecl.{FunDecl}
@@ -15,7 +15,7 @@ use Rattle.ras_closure.specs.Images.{HasNoImage}
 use Rattle.ras_closure.specs.Spares.{AreLacking, AreSpares, sized}
 use Rattle.ras_closure.specs.Values.{AreModelValues}
 
--- The image of an element: that of a term of that number, or else undef, or under a total function the last element.
+-- The image of an element: that of a term with that element, or else undef, or under a total function the last element.
 abbrev pub IsImage : List Term → (ℕ → ℕ) → (SortId → ℕ) → FunId → FunDecl → ℕ → ℕ → Type 0
 IsImage terms number size f decl x y =
     ((i : ℕ) × (k : ℕ) × (t : Term) × IsAt terms i t × IsAt terms k (image_term t f) × (number i ≡ x) × (y ≡ number k))
@@ -31,6 +31,7 @@ pub record AreTables (schema : SchemaParts) (terms : List Term) (number : ℕ �
   pub each : (f : FunId) (decl : FunDecl) → f.n < length tables → slice_get schema.functions f.n ≡ Some decl
       → IsTableOf terms number size f decl (get_or tables f.n [])
 
+-- the database: its sizes, the tables of its functions and the elements of its constants
 pub record IsModelDb (schema : SchemaParts) (terms : List Term) (number : ℕ → ℕ) (size : SortId → ℕ) (d : RawDb) : Type 0 where
   pub as_many_sizes : length d.sizes ≡ schema.sorts
   pub sizes : (s : SortId) → s.n < schema.sorts → size_of d s ≡ size s

@@ -1,5 +1,5 @@
 -- The terms of a problem, numbered, and how each is made of an earlier one.
-use Rattle.std.specs.Prelude.{◌≡◌, ℕ, List, slice_get, Some, ◌+◌, ◌<◌, length, []}
+use Rattle.std.specs.Prelude.{◌≡◌, ℕ, ◌+◌, ◌<◌, List, [], length, slice_get, Some}
 use Rattle.ras_logic.specs.declared.term.Term.{Term}
 use Rattle.ras_logic.specs.declared.ids.SortId.{SortId}
 use Rattle.ras_logic.specs.declared.ids.ConstId.{ConstId}
@@ -27,6 +27,7 @@ pub record AreTerms (schema : SchemaParts) (literals : List Literal) (terms : Li
   pub undefs : (s : SortId) → s.n < schema.sorts → IsAt terms s.n (undef_term s)
   pub constants : (c : ConstId) → c.n < length schema.constants → IsAt terms (schema.sorts + c.n) (constant_term c)
 
+-- the term i is made as the image by the function of the term `of`
 abbrev pub IsImageLink : List Link → ℕ → ℕ → FunId → Type 0
 IsImageLink links i of f = slice_get links i ≡ Some (Image of f)
 
@@ -45,6 +46,7 @@ pub record TableParts : Type 0 where
   pub terms : List Term
   pub links : List Link
 
+-- the shape and the problem fit each other, and the terms are those of the problem
 pub record IsTable (t : TableParts) : Type 0 where
   pub shape : IsShape t.shape
   pub limits : HasSchemaLimits t.shape.schema

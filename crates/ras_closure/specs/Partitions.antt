@@ -1,5 +1,5 @@
--- Classes on the way to those of what was asserted.
-use Rattle.std.specs.Prelude.{◌≡◌, ℕ, ◌<◌, List, length, ◌≤◌}
+-- Classes of terms on the way to the least that are closed: too few terms may be in one class, and never too many.
+use Rattle.std.specs.Prelude.{◌≡◌, ℕ, ◌<◌, ◌≤◌, List, length}
 use Rattle.ras_logic.specs.declared.term.Term.{Term}
 use Rattle.ras_logic.specs.Clashes.{Together}
 use Rattle.ras_closure.specs.Numbered.{IsAt, TableParts}
@@ -12,8 +12,7 @@ pub record AreBelow (t : TableParts) (classes : List ℕ) : Type 0 where
   pub as_many : length classes ≡ length t.terms
   pub below : (i : ℕ) → i < length t.terms → class classes i < length t.terms
 
--- Classes on the way: a class has the number of one of its terms, which is none but the first ones', and terms of one class
--- are together.
+-- A class has the number of its first term, and terms of one class are together.
 pub record ArePartial (t : TableParts) (marks : MarkParts) (classes : List ℕ) : Type 0 where
   pub as_many : length classes ≡ length t.terms
   pub low : (i : ℕ) → i < length t.terms → class classes i ≤ i
@@ -24,7 +23,7 @@ pub record ArePartial (t : TableParts) (marks : MarkParts) (classes : List ℕ) 
 abbrev pub AreTogether : TableParts → MarkParts → ℕ → ℕ → Type 0
 AreTogether t marks i j = (s u : Term) → IsAt t.terms i s → IsAt t.terms j u → Together t.shape.schema t.problem.literals (IsAsserted t.terms marks) s u
 
--- the saturation's end
+-- the end of a saturation: no rule asks for more, and what was in one class still is
 pub record IsRest (t : TableParts) (marks : MarkParts) (old new : List ℕ) : Type 0 where
   pub partial : ArePartial t marks new
   pub saturated : IsSaturated t new

@@ -1,5 +1,5 @@
 -- When a rule for functions asks for more: two terms of different classes that it puts together, and classes of which none asks for more.
-use Rattle.std.specs.Prelude.{◌≡◌, ℕ, true, List, slice_get, Some, ◌≢◌, ◌<◌, length}
+use Rattle.std.specs.Prelude.{◌≡◌, ◌≢◌, ℕ, ◌<◌, true, List, length, slice_get, Some}
 use Rattle.ras_logic.specs.declared.ids.FunId.{FunId}
 use Rattle.ras_logic.specs.declared.function.FunDecl.{FunDecl}
 use Rattle.ras_closure.specs.Numbered.{IsImageLink, TableParts}
@@ -13,6 +13,7 @@ pub data Forced (t : TableParts) (classes : List ℕ) : ℕ → ℕ → Type 0 w
   by_total : (i of : ℕ) (f : FunId) (d : FunDecl) → IsImageLink t.links i of f → slice_get t.shape.schema.functions f.n ≡ Some d → d.total ≡ true
       → class classes i ≡ class classes d.target.n → Forced t classes of d.source.n
 
+-- two terms of different classes that a rule puts together
 pub record IsForcedPair (t : TableParts) (classes : List ℕ) (i j : ℕ) : Type 0 where
   pub forced : Forced t classes i j
   pub differ : class classes i ≢ class classes j

@@ -1,16 +1,17 @@
--- For each function and class one image that was met, by which a second is found at once.
-use Rattle.std.specs.Prelude.{ℕ, List, ◌+◌, ◌*◌, get_or, ◌≡◌, ◌<◌}
+-- The table of signatures: for each function and class one image of a term of the class, so that a second is found at once.
+use Rattle.std.specs.Prelude.{◌≡◌, ℕ, ◌+◌, ◌*◌, ◌<◌, List, get_or}
 use Rattle.ras_logic.specs.declared.ids.FunId.{FunId}
 use Rattle.ras_closure.specs.Numbered.{IsImageLink, TableParts}
 use Rattle.ras_closure.specs.Classes.{class}
 use Rattle.ras_closure.specs.Rules.{AreUndefRules}
 
--- for each function and class an image that was met, if one was
+-- a row for each function, with a place for each class: the number of an image that was met, if one was
 pub record SignatureParts : Type 0 where
   pub functions : ℕ
   pub width : ℕ
   pub images : List ℕ
 
+-- what stands for the function and the class
 abbrev pub signature : SignatureParts → ℕ → ℕ → ℕ
 signature s f c = get_or s.images (f * s.width + c) 0
 

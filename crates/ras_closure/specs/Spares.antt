@@ -1,5 +1,5 @@
 -- The sorts that have one element more: an image under a total function is missing there.
-use Rattle.std.specs.Prelude.{if◌then◌else◌, ◌≡◌, ℕ, ◌<◌, ◌≤◌, true, List, Bool, false, length, get_or, slice_get, Some, MatchBool, ◌⊎◌, ◌+◌}
+use Rattle.std.specs.Prelude.{◌≡◌, ℕ, ◌+◌, ◌<◌, ◌≤◌, ◌⊎◌, Bool, true, false, List, length, get_or, slice_get, Some, MatchBool, if◌then◌else◌}
 use Rattle.ras_logic.specs.declared.ids.FunId.{FunId}
 use Rattle.ras_logic.specs.declared.function.FunDecl.{FunDecl}
 use Rattle.ras_logic.specs.declared.ids.SortId.{SortId}
@@ -7,7 +7,7 @@ use Rattle.ras_closure.specs.Numbered.{TableParts}
 use Rattle.ras_closure.specs.Elements.{number, count}
 use Rattle.ras_closure.specs.Images.{HasNoImage}
 
--- some element of the source's classes has no image by the total function
+-- an image by the total function is missing: some element of the source's classes has none
 pub record IsLacking (t : TableParts) (numbers counts : List ℕ) (f : FunId) (decl : FunDecl) : Type 0 where
   pub total : decl.total ≡ true
   pub x : ℕ
@@ -15,12 +15,12 @@ pub record IsLacking (t : TableParts) (numbers counts : List ℕ) (f : FunId) (d
   pub within : x ≤ count counts decl.source
   pub none : HasNoImage t.terms (number numbers) f x
 
--- which of the first functions are
+-- of which of the first functions an image is missing
 pub record AreLacking (t : TableParts) (numbers counts : List ℕ) (lacking : List Bool) : Type 0 where
   pub each : (f : FunId) (decl : FunDecl) → f.n < length lacking → slice_get t.shape.schema.functions f.n ≡ Some decl
       → MatchBool (get_or lacking f.n false) (IsLacking t numbers counts f decl) (IsLacking t numbers counts f decl → ⊥)
 
--- an image by the total function is missing: of an element of a class, or of the source's spare element
+-- an image by the total function is missing, of an element of a class or of the source's spare element
 pub record NeedsSpare (lacking : Bool) (spares : List Bool) (decl : FunDecl) : Type 0 where
   pub total : decl.total ≡ true
   pub reason : (lacking ≡ true) ⊎ (get_or spares decl.source.n false ≡ true)
@@ -44,6 +44,6 @@ pub record AreSpares (t : TableParts) (lacking spares : List Bool) : Type 0 wher
   pub spared : AreSpared t.shape.schema.functions lacking spares (length t.shape.schema.functions)
   pub needed : (sort : ℕ) → get_or spares sort false ≡ true → IsNeeded t.shape.schema.functions lacking spares sort
 
--- the elements of the sort's classes, and the spare one
+-- how many elements a sort has: those of its classes, and the spare one
 abbrev pub sized : List ℕ → List Bool → SortId → ℕ
 sized counts spares s = count counts s + (if get_or spares s.n false then 1 else 0)

@@ -1,5 +1,5 @@
 -- What speaks against the classes: terms that must be the same, and cannot be.
-use Rattle.std.specs.Prelude.{◌≡◌, ◌≢◌, ℕ, ◌<◌, ◌⊎◌, true, false, length, List, Option, Some, None}
+use Rattle.std.specs.Prelude.{◌≡◌, ◌≢◌, ℕ, ◌<◌, ◌⊎◌, true, false, List, length, Option, Some, None}
 use Rattle.ras_closure.specs.declared.clash.Clash.{Clash}
 use Rattle.ras_closure.specs.Numbered.{TableParts, rigid_count}
 use Rattle.ras_closure.specs.Assertions.{MarkParts, is_marked}

@@ -1,3 +1,5 @@
+ghost use Rattle.std.specs.Prelude.{◌≡◌, ◌+◌, ◌-◌, ◌^◌, min};
+
 /// How many entries of its tables a closure has looked at: a measure of its work that no machine changes.
 #[derive(Clone, Copy, Debug)]
 pub struct Steps {
@@ -5,8 +7,10 @@ pub struct Steps {
 }
 
 impl Steps {
-    /// So many entries were looked at.
-    pub fn add(&mut self, entries: usize) {
+    /// So many entries more were looked at. The count stands still at its type's end.
+    pub fn add(&mut self, entries: usize)
+        ensures { self.new.entries ≡ min (self.old.entries + entries) (2 ^ 64 - 1) }
+    {
         self.entries = self.entries.saturating_add(entries as u64);
     }
 }
