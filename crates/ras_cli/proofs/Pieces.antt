@@ -1,5 +1,5 @@
 -- A text that is put piece by piece.
-use Rattle.std.proofs.Common.{◌≡◌, ℕ, zero, suc, ◌+◌, ◌≤◌, List, [], ◌∷◌, Option, Result, Ok, Err, OnErr, take, drop, refl, sym, ◌∙◌, ap, arith}
+use Rattle.std.proofs.Common.{◌≡◌, ℕ, zero, suc, ◌+◌, ◌≤◌, List, [], ◌∷◌, Option, take, drop, refl, sym, ◌∙◌, ap, arith}
 use Rattle.std.specs.Io.KnownBytes.{append_known}
 use Rattle.std.proofs.Math.Seq.{take-add}
 use Rattle.ras_outside.proofs.Taking.{append_known-append}
@@ -16,7 +16,3 @@ front-of_front zero n xs le = refl
 front-of_front (suc k) zero xs le = absurd (omega arith)
 front-of_front (suc k) (suc n) [] le = refl
 front-of_front (suc k) (suc n) (x ∷ xs) le = ap (λ (ys : List ℕ). x ∷ ys) (front-of_front k n xs (omega arith))
-
-pub on_err : {T E P : Type 0} (r : Result T E) → P → OnErr r P
-on_err (Ok x) p = tt
-on_err (Err e) p = p

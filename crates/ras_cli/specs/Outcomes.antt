@@ -1,20 +1,23 @@
 -- What may come of the words: the status, the text, and what is then so.
 use Rattle.std.specs.Prelude.{◌≡◌, ℕ, ◌-◌, ◌^◌, ◌≤◌, ◌⊎◌, List, [], ◌∷◌, ◌++◌, length, codes}
-use Rattle.ras_logic.specs.declared.problem.Problem.{Problem}
-use Rattle.ras_logic.specs.declared.tree.Tree.{Tree}
-use Rattle.ras_system.specs.Systems.{SystemParts}
-use Rattle.ras_system.specs.Runs.{IsSafe}
-use Rattle.ras_system.specs.Evidence.{IsGoodSafe}
-use Rattle.ras_evidence.specs.Bundles.{IsSafeBundle}
 use Rattle.ras_outside.specs.Count.{Rose}
 use Rattle.ras_outside.specs.Told.{Told, holds, IsTold, HoldsMoreThan}
 use Rattle.ras_cli.specs.declared.outcome.Outcome.{Outcome}
-use Rattle.ras_cli.specs.declared.outcome.Outcome.TheVariants.{Valid, NoBundle, TooLong, NotRead, NoCommand}
+use Rattle.ras_cli.specs.declared.outcome.Outcome.TheVariants.{Judged, TooLong, NotRead, NoCommand}
+use Rattle.ras_cli.specs.declared.judgement.Judgement.{Judgement}
+use Rattle.ras_cli.specs.declared.judgement.Judgement.TheVariants.{Valid, Invalid, Unbuilt, NoEvidence, NoSystem}
+use Rattle.ras_cli.specs.Judgements.{IsJudged}
 use Rattle.ras_cli.specs.Words.{IsCheck, IsNoCommand}
 
+abbrev pub judgement_status : Judgement → ℕ
+judgement_status Valid = 0
+judgement_status NoSystem = 30
+judgement_status NoEvidence = 31
+judgement_status Unbuilt = 31
+judgement_status Invalid = 31
+
 abbrev pub status_of : Outcome → ℕ
-status_of Valid = 0
-status_of NoBundle = 30
+status_of (Judged judgement) = judgement_status judgement
 status_of (TooLong name) = 32
 status_of NoCommand = 40
 status_of (NotRead name) = 50
@@ -23,9 +26,15 @@ status_of (NotRead name) = 50
 abbrev pub line : List ℕ → List ℕ
 line text = text ++ 10 ∷ []
 
+abbrev pub judgement_text : Judgement → List ℕ
+judgement_text Valid = line (codes "VALID SAFE")
+judgement_text NoSystem = line (codes "REFUSED bundle")
+judgement_text NoEvidence = line (codes "REFUSED evidence")
+judgement_text Unbuilt = line (codes "REFUSED evidence UNBUILT")
+judgement_text Invalid = line (codes "INVALID")
+
 abbrev pub text_of : Outcome → List ℕ
-text_of Valid = line (codes "VALID SAFE")
-text_of NoBundle = line (codes "REFUSED bundle")
+text_of (Judged judgement) = judgement_text judgement
 text_of (TooLong name) = codes "REFUSED long " ++ line name.now
 text_of (NotRead name) = codes "REFUSED read " ++ line name.now
 text_of NoCommand = line (codes "REFUSED words") ++ (line (codes "usage:") ++ line (codes "  rasprove check BUNDLE"))
@@ -33,15 +42,6 @@ text_of NoCommand = line (codes "REFUSED words") ++ (line (codes "usage:") ++ li
 -- the length of the longest file that is loaded
 abbrev pub most : ℕ
 most = 2 ^ 63 - 1
-
--- the bytes are a bundle with a good evidence of safety, whose system is safe
-pub record IsValidBundle (bytes : List ℕ) : Type 0 where
-  pub system : SystemParts
-  pub formulas : List Problem
-  pub trees : List Tree
-  pub bundle : IsSafeBundle bytes system formulas trees
-  pub good : IsGoodSafe system formulas trees
-  pub safe : IsSafe system
 
 -- where the shelf tells of the file, it is no longer than is loaded, and its bytes are so
 abbrev pub IsLoaded : Told → (List ℕ → Type 0) → Type 0
@@ -63,11 +63,19 @@ IsNotRead words before after name = IsCheck words name × Rose (before name) (af
 
 -- when an outcome may come: by the words, what the shelf tells, and its counts of faults before and after
 abbrev pub Comes : List (List ℕ) → (List ℕ → Told) → (List ℕ → ℕ) → (List ℕ → ℕ) → Outcome → Type 0
-Comes words told before after Valid = ChecksFile words told IsValidBundle
-Comes words told before after NoBundle = ChecksFile words told (λ _. Unit {0})
+Comes words told before after (Judged judgement) = ChecksFile words told (λ bytes. IsJudged bytes judgement)
 Comes words told before after (TooLong name) = IsTooLong words told name.now
 Comes words told before after (NotRead name) = IsNotRead words before after name.now
 Comes words told before after NoCommand = IsNoCommand words
+
+-- the words name a file, of which the shelf tells that it is so judged
+pub record Holds (words : List (List ℕ)) (told : List ℕ → Told) (judgement : Judgement) : Type 0 where
+  pub name : List ℕ
+  pub content : List ℕ
+  pub check : IsCheck words name
+  pub told_is : told name ≡ holds content
+  pub not_long : length content ≤ most
+  pub judged : IsJudged content judgement
 
 -- the statuses of a call that was cut off: by a fault of the sink, or by want of memory
 abbrev pub IsCutOff : ℕ → Type 0

@@ -2,6 +2,7 @@
 //! and a status: the program uses the contract of `verify_quiet`.
 #![tactic(auto)]
 
+mod judgement;
 mod outcome;
 mod putting;
 #[cfg(test)]

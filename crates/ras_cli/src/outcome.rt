@@ -1,15 +1,14 @@
 ghost use Rattle.std.specs.Prelude.{◌≡◌, ◌++◌, ◌∷◌, [], IfOk};
 ghost use Rattle.ras_cli.specs.Outcomes.{status_of, text_of};
 
+use crate::judgement::Judgement;
 use std::alloc::{AllocError, Global};
 
 /// What came of the words.
 #[derive(Clone, Copy, Debug)]
 pub enum Outcome<'a> {
-    /// The evidence of the bundle is good.
-    Valid,
-    /// What was loaded is no bundle with a good evidence.
-    NoBundle,
+    /// The file was loaded, and its bytes were judged.
+    Judged(Judgement),
     /// The file is longer than its limit.
     TooLong { name: &'a str },
     /// The file could not be read.
@@ -40,8 +39,7 @@ impl<'a> Outcome<'a> {
         ensures { result ≡ status_of self.now }
     {
         match self {
-            Outcome::Valid => 0,
-            Outcome::NoBundle => 30,
+            Outcome::Judged(judgement) => judgement.status(),
             Outcome::TooLong { .. } => 32,
             Outcome::NoCommand => 40,
             Outcome::NotRead { .. } => 50,
@@ -53,8 +51,7 @@ impl<'a> Outcome<'a> {
         ensures { IfOk result (λ text. text.items ≡ text_of self.now) }
     {
         match self {
-            Outcome::Valid => line(alloc, b"VALID SAFE\n"),
-            Outcome::NoBundle => line(alloc, b"REFUSED bundle\n"),
+            Outcome::Judged(judgement) => line(alloc, judgement.text()),
             Outcome::TooLong { name } => line_with(alloc, b"REFUSED long ", name),
             Outcome::NotRead { name } => line_with(alloc, b"REFUSED read ", name),
             Outcome::NoCommand => line(alloc, b"REFUSED words\nusage:\n  rasprove check BUNDLE\n"),

@@ -106,13 +106,171 @@ fn checks<R: Threads + Sync>(
 }
 
 #[test]
-fn good_evidence_is_valid_and_all_else_is_refused(rt: HostRuntime) -> Result<(), Fail> {
+fn good_evidence_is_valid_and_all_else_is_not(rt: HostRuntime) -> Result<(), Fail> {
     let alloc = rt.alloc();
     assert!(rt; checks(&rt, alloc, ONE_VARIABLE, 0, b"VALID SAFE\n")?);
     assert!(rt; checks(&rt, alloc, ONE_STEP, 0, b"VALID SAFE\n")?);
-    for refused in [OPEN_GOAL, b"".as_slice(), b"bundle 1\n".as_slice()] {
-        assert!(rt; checks(&rt, alloc, refused, 30, b"REFUSED bundle\n")?);
+    assert!(rt; checks(&rt, alloc, OPEN_GOAL, 31, b"INVALID\n")?);
+    Ok(())
+}
+
+/// The texts, one behind the other.
+fn joined(alloc: Global, texts: &[&[u8]]) -> Result<Vec<u8>, AllocError> {
+    let mut all = Vec::new(alloc);
+    for text in texts {
+        all.extend_from_slice(text)?;
     }
+    Ok(all)
+}
+
+#[test]
+fn what_is_no_evidence_is_told_from_what_is_not_good(rt: HostRuntime) -> Result<(), Fail> {
+    let alloc = rt.alloc();
+    let cases = [
+        (b"".as_slice(), b"REFUSED evidence\n".as_slice()),
+        (
+            b"evidence 1 safe\nformulas 1\ncube 0 1 v0".as_slice(),
+            b"REFUSED evidence\n",
+        ),
+        (
+            b"evidence 1 safe\nformulas 01\n".as_slice(),
+            b"REFUSED evidence\n",
+        ),
+        (
+            b"evidence 1 safe\nformulas  0\n".as_slice(),
+            b"REFUSED evidence\n",
+        ),
+        (
+            b"evidence 1 safe\nformulas 0\ntrees 0\nend".as_slice(),
+            b"REFUSED evidence\n",
+        ),
+        (
+            b"evidence 1 safe\nformulas 0\ntrees 0\nend\njournal 0\n".as_slice(),
+            b"REFUSED evidence\n",
+        ),
+        (b"evidence 2 safe\n".as_slice(), b"REFUSED evidence\n"),
+        (b"evidence 1 unsafe".as_slice(), b"REFUSED evidence\n"),
+        (
+            b"evidence 1 unsafe\n".as_slice(),
+            b"REFUSED evidence UNBUILT\n",
+        ),
+        (
+            b"evidence 1 unknown\nbudget".as_slice(),
+            b"REFUSED evidence UNBUILT\n",
+        ),
+        (
+            b"evidence 1 safe\nformulas 0\ntrees 0\nend\n".as_slice(),
+            b"INVALID\n",
+        ),
+    ];
+    let system =
+        b"bundle 1\nsorts 1\nfunctions 0\nconsts 0\nvariables 0\ntransitions 0\nunsafe 1\ncube 0 0\n";
+    for (evidence, written) in cases {
+        let content = joined(alloc, &[system, evidence])?;
+        assert!(rt; checks(&rt, alloc, &content, 31, written)?);
+    }
+    Ok(())
+}
+
+// An evidence of safety for systems without goals.
+const NOTHING_UNSAFE: &[u8] = b"evidence 1 safe\nformulas 0\ntrees 0\nend\n";
+
+#[test]
+fn a_system_part_that_denotes_no_system_is_refused(rt: HostRuntime) -> Result<(), Fail> {
+    let alloc = rt.alloc();
+    let systems = [
+        b"".as_slice(),
+        b"bundle 1\n".as_slice(),
+        // a number with a leading zero, and two blanks
+        b"bundle 1\nsorts 01\nfunctions 0\nconsts 0\nvariables 0\ntransitions 0\nunsafe 0\n".as_slice(),
+        b"bundle 1\nsorts  1\nfunctions 0\nconsts 0\nvariables 0\ntransitions 0\nunsafe 0\n".as_slice(),
+        // a function that closes a cycle with the one before
+        b"bundle 1\nsorts 2\nfunctions 2\nfunction 0 1 total\nfunction 1 0 nullable\nconsts 0\nvariables 0\ntransitions 0\nunsafe 0\n".as_slice(),
+        // an initial constant of another sort
+        b"bundle 1\nsorts 2\nfunctions 0\nconsts 1 1\nvariables 1\nvariable 0 0\ntransitions 0\nunsafe 0\n".as_slice(),
+        b"bundle 1\nsorts 1\nfunctions 0\nconsts 0\nvariables 0\ntransitions 1\nguard 0\nupdates 0\nunsafe 0\n".as_slice(),
+        // a variable that is assigned twice
+        b"bundle 1\nsorts 1\nfunctions 0\nconsts 0\nvariables 1\nvariable 0 none\ntransitions 1\nguard 1\ncube 0 0\nupdates 2\nupdate 0 u0\nupdate 0 u0\nunsafe 0\n".as_slice(),
+    ];
+    for system in systems {
+        let content = joined(alloc, &[system, NOTHING_UNSAFE])?;
+        assert!(rt; checks(&rt, alloc, &content, 30, b"REFUSED bundle\n")?);
+    }
+    Ok(())
+}
+
+/// A text so many times.
+fn times(alloc: Global, text: &[u8], count: usize) -> Result<Vec<u8>, AllocError> {
+    let mut all = Vec::new(alloc);
+    for _ in 0..count {
+        all.extend_from_slice(text)?;
+    }
+    Ok(all)
+}
+
+/// Whether a bundle that ends its system part with so many items, and these lines behind them, ends so.
+fn counts<R: Threads + Sync>(
+    rt: &R,
+    alloc: Global,
+    front: &[u8],
+    item: &[u8],
+    count: usize,
+    behind: &[u8],
+    status: u8,
+) -> Result<bool, Fail> {
+    let items = times(alloc, item, count)?;
+    let content = joined(
+        alloc,
+        &[b"bundle 1\n", front, &items, behind, NOTHING_UNSAFE],
+    )?;
+    let written = match status {
+        0 => b"VALID SAFE\n".as_slice(),
+        30 => b"REFUSED bundle\n".as_slice(),
+        _ => b"INVALID\n".as_slice(),
+    };
+    checks(rt, alloc, &content, status, written)
+}
+
+#[test]
+fn each_limit_is_kept_and_not_passed(rt: HostRuntime) -> Result<(), Fail> {
+    let alloc = rt.alloc();
+    let rest = b"consts 0\nvariables 0\ntransitions 0\nunsafe 0\n";
+    let function = b"function 0 1 total\n";
+    assert!(rt; counts(&rt, alloc, b"sorts 64\nfunctions 0\n", b"", 0, rest, 0)?);
+    assert!(rt; counts(&rt, alloc, b"sorts 65\nfunctions 0\n", b"", 0, rest, 30)?);
+    assert!(rt;
+        counts(
+            &rt,
+            alloc,
+            b"sorts 2\nfunctions 256\n",
+            function,
+            256,
+            rest,
+            0
+        )?
+    );
+    assert!(rt;
+        counts(
+            &rt,
+            alloc,
+            b"sorts 2\nfunctions 257\n",
+            function,
+            257,
+            rest,
+            30
+        )?
+    );
+    let variable =
+        b"sorts 1\nfunctions 0\nconsts 0\nvariables 1\nvariable 0 none\ntransitions 0\nunsafe 1\n";
+    let most = joined(alloc, &[variable, b"cube 0 128"])?;
+    let more = joined(alloc, &[variable, b"cube 0 129"])?;
+    assert!(rt; counts(&rt, alloc, &most, b" v0=v0", 128, b"\n", 31)?);
+    assert!(rt; counts(&rt, alloc, &more, b" v0=v0", 129, b"\n", 30)?);
+    let goals = b"sorts 1\nfunctions 0\nconsts 0\nvariables 0\ntransitions 0\nunsafe ";
+    let most = joined(alloc, &[goals, b"64\n"])?;
+    let more = joined(alloc, &[goals, b"65\n"])?;
+    assert!(rt; counts(&rt, alloc, &most, b"cube 0 0\n", 64, b"", 31)?);
+    assert!(rt; counts(&rt, alloc, &more, b"cube 0 0\n", 65, b"", 30)?);
     Ok(())
 }
 

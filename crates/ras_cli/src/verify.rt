@@ -5,43 +5,21 @@ ghost use Rattle.ras_outside.specs.Told.{holds, HoldsMoreThan};
 ghost use Rattle.ras_cli.specs.declared.outcome.Outcome.{Outcome};
 ghost use Rattle.ras_cli.specs.Words.{texts, IsCheck, IsNoCommand};
 ghost use Rattle.ras_cli.specs.Putting.{PutsFront};
-ghost use Rattle.ras_cli.specs.Outcomes.{most, status_of, text_of, IsValidBundle, ChecksFile, IsTooLong, IsNotRead, Comes, IsCutOff};
+ghost use Rattle.ras_evidence.specs.Bundles.{DenotesNoSystem, HasNoEvidence, HasOtherEvidence};
+ghost use Rattle.ras_cli.specs.declared.judgement.Judgement.{Judgement};
+ghost use Rattle.ras_cli.specs.Judgements.{IsValidBundle, IsInvalidBundle};
+ghost use Rattle.ras_cli.specs.Outcomes.{most, judgement_status, judgement_text, status_of, text_of, ChecksFile, IsTooLong, IsNotRead, Comes, Holds, IsCutOff};
 
+use crate::judgement::judged;
 use crate::outcome::Outcome;
 use crate::putting::put_text;
 use crate::words::checked_file;
-use ras_check::{CheckError, check_safe};
-use ras_evidence::{BundleError, read_bundle};
 use ras_outside::{LoadFault, Shelf, Sink};
-use ras_system::a_good_evidence_suffices;
 use std::alloc::{AllocError, Global};
 use std::thread::Threads;
 
 /// The length of the longest `Vec<u8>`.
 const MOST: u64 = 9_223_372_036_854_775_807;
-
-/// Whether bytes are a bundle with a good evidence of safety.
-fn is_valid_bundle(alloc: Global, bytes: &[u8]) -> Result<bool, AllocError>
-    ensures { IfOk result (λ valid. IsTrue valid → IsValidBundle bytes.now) }
-{
-    a_good_evidence_suffices();
-    let bundle = match read_bundle(alloc, bytes) {
-        Ok(bundle) => bundle,
-        Err(BundleError::Text) => return Ok(false),
-        Err(BundleError::Memory) => return Err(AllocError),
-    };
-    bundle.system.known();
-    match check_safe(
-        alloc,
-        &bundle.system,
-        bundle.formulas.as_slice(),
-        bundle.trees.as_slice(),
-    ) {
-        Ok(()) => Ok(true),
-        Err(CheckError::Fault(_)) => Ok(false),
-        Err(CheckError::Memory(error)) => Err(error),
-    }
-}
 
 /// What comes of `check` and a file name, or of no command.
 fn outcome<'a, H: Shelf>(
@@ -60,10 +38,7 @@ fn outcome<'a, H: Shelf>(
         Err(LoadFault::TooLong) => return Ok(Outcome::TooLong { name }),
         Err(LoadFault::Memory(error)) => return Err(error),
     };
-    if is_valid_bundle(alloc, &bytes)? {
-        return Ok(Outcome::Valid);
-    }
-    Ok(Outcome::NoBundle)
+    Ok(Outcome::Judged(judged(alloc, &bytes)?))
 }
 
 /// Carries out the words of the command line: loads the file that they name from the shelf, judges it, writes one text to
@@ -72,7 +47,10 @@ fn outcome<'a, H: Shelf>(
 /// | Status | Text | Comes |
 /// |---|---|---|
 /// | 0 | `VALID SAFE` | where the file is a bundle with a good evidence of safety |
-/// | 30 | `REFUSED bundle` | where the file is another text |
+/// | 30 | `REFUSED bundle` | where its system part denotes no system |
+/// | 31 | `REFUSED evidence` | where no evidence stands behind its system part |
+/// | 31 | `REFUSED evidence UNBUILT` | where an evidence of another kind than safety stands there |
+/// | 31 | `INVALID` | where its evidence of safety is not good |
 /// | 32 | `REFUSED long NAME` | where the file is longer than the longest `Vec<u8>` |
 /// | 40 | `REFUSED words` and the usage lines | where the words are not `check` and a file name that begins with no `-` |
 /// | 50 | `REFUSED read NAME` | where the shelf failed |
@@ -90,7 +68,8 @@ pub fn verify_quiet<R: Threads + Sync, H: Shelf, K: Sink>(
 
     // When each status comes.
     ensures valid { result ≡ 0 → ChecksFile (texts words.now) (H.told shelf.old) IsValidBundle }
-    ensures no_bundle { result ≡ 30 → ChecksFile (texts words.now) (H.told shelf.old) (λ _. Unit {0}) }
+    ensures no_system { result ≡ 30 → ChecksFile (texts words.now) (H.told shelf.old) DenotesNoSystem }
+    ensures refused { result ≡ 31 → ChecksFile (texts words.now) (H.told shelf.old) (λ bytes. HasNoEvidence bytes ⊎ (HasOtherEvidence bytes ⊎ IsInvalidBundle bytes)) }
     ensures too_long { result ≡ 32 → (name : List ℕ) × IsTooLong (texts words.now) (H.told shelf.old) name }
     ensures no_command { result ≡ 40 → IsNoCommand (texts words.now) }
     ensures not_read { result ≡ 50 → (name : List ℕ) × IsNotRead (texts words.now) (H.faults shelf.old) (H.faults shelf.new) name }
@@ -99,6 +78,9 @@ pub fn verify_quiet<R: Threads + Sync, H: Shelf, K: Sink>(
     // What always leads to a status, where nothing else is in the way.
     ensures every_no_command { IsNoCommand (texts words.now) → (result ≡ 40) ⊎ IsCutOff result }
     ensures every_too_long { (name : List ℕ) → IsCheck (texts words.now) name → HoldsMoreThan (H.told shelf.old name) most → (result ≡ 32) ⊎ ((result ≡ 50) ⊎ IsCutOff result) }
+
+    ensures every_judged { (j : Judgement) → Holds (texts words.now) (H.told shelf.old) j
+        → ((result ≡ judgement_status j) × (K.written out.new ≡ append_known (K.written out.old) (judgement_text j))) ⊎ ((result ≡ 50) ⊎ IsCutOff result) }
 
     // What is written.
     ensures whole { ¬ IsCutOff result → (o : Outcome) × Comes (texts words.now) (H.told shelf.old) (H.faults shelf.old) (H.faults shelf.new) o

@@ -1,3 +1,7 @@
-pub mod Numbers
-pub mod Spacing
-pub mod TreeNodes
+pub mod EvidenceLaws
+pub mod SystemLaws
+pub mod HeaderLaws
+pub mod BundleLaws
+pub mod PlainLaws
+pub mod RefusalLaws
+pub mod OneFault

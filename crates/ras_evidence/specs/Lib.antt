@@ -1,6 +1,9 @@
-pub mod Numeral
-pub mod Lines
-pub mod Words
-pub mod Trees
-pub mod Systems
+pub mod Headers
+pub mod SafeTexts
+pub mod SystemTexts
+pub mod SystemReading
+pub mod Numbers
 pub mod Bundles
+pub mod Refusals
+pub mod BundleFaults
+pub mod Endings

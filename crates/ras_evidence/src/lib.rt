@@ -1,19 +1,22 @@
-//! The number texts: bytes come in, a system with an evidence of safety goes out. The layer above uses the contract of
-//! `read_bundle`: what it answers is what the bytes spell.
+//! Certificates in numbers: bytes come in, a system with an evidence of safety goes out. The layer above uses the contract
+//! of `read_bundle`: it answers a bundle exactly where the bytes spell one, and else names the first line that does not fit.
 #![tactic(auto)]
 
 mod bundle;
-mod cubes;
-mod digits;
+mod denoted;
+mod evidence;
 mod fault;
-mod formulas;
-mod reader;
-mod spelled;
-mod systems;
+mod grammar;
+mod header;
+mod law;
+mod safe;
+mod system_lines;
 #[cfg(test)]
 mod tests;
-mod trees;
-mod variable;
 
 pub use bundle::{Bundle, read_bundle};
-pub use fault::BundleError;
+pub use fault::{BundleError, BundleKind, EvidenceFault, EvidenceKind};
+pub use law::{
+    a_fault_tells_the_text, a_text_has_one_evidence, an_evidence_has_one_kind,
+    bytes_begin_with_one_system, bytes_have_one_fault,
+};

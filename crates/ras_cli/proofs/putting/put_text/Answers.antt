@@ -2,20 +2,19 @@ use Rattle.std.proofs.Common.{◌≡◌, ◌+◌, ◌-◌, ◌≤◌, ℕ, take,
 use Rattle.std.specs.Io.KnownBytes.{append_known}
 use Rattle.std.proofs.lemmas.List.{length-take, length-drop}
 use Rattle.ras_outside.specs.SinkFault.{taken_of}
-use Rattle.ras_cli.proofs.Pieces.{piece-put, front-of_front, on_err}
+use Rattle.ras_cli.proofs.Pieces.{piece-put, front-of_front}
 use Rattle.ras_cli.proofs.putting.put_text.Goals as goal
 
-pub returns-in_err-put-clause-front : goal.returns-in_err-put-clause-front
-returns-in_err-put-clause-front g c =
-    let taken : ℕ = taken_of c.in_err-put.field-0.0 in
+pub returns-in-Err-clause-front : goal.returns-in-Err-clause-front
+returns-in-Err-clause-front g c =
+    let taken : ℕ = taken_of c.in-Err.field-0 in
     let size : ℕ = c.min-end.result - c.loop-at.at in
     let long = length-take size (drop c.loop-at.at c.args.text.now) in
-    let few : taken ≤ size = omega (arith, c.in_err-put.ensures.taken, long) in
-    on_err c.from_residual.result (
+    let few : taken ≤ size = omega (arith, c.in-Err.ensures.taken, long) in (
       c.loop-at.at + taken,
-      omega (arith, c.in_err-put.ensures.taken, long, length-drop c.loop-at.at c.args.text.now, c.loop-at.invariant.within),
+      omega (arith, c.in-Err.ensures.taken, long, length-drop c.loop-at.at c.args.text.now, c.loop-at.invariant.within),
       piece-put (g.K.Sink.written c.args.out.now) (g.K.Sink.written c.loop-at.out) (g.K.Sink.written c.put.new.self) c.args.text.now c.loop-at.at taken c.loop-at.invariant.put
-          (c.in_err-put.ensures.first ∙ ap (append_known (g.K.Sink.written c.loop-at.out)) (front-of_front taken size (drop c.loop-at.at c.args.text.now) few)),
+          (c.in-Err.ensures.first ∙ ap (append_known (g.K.Sink.written c.loop-at.out)) (front-of_front taken size (drop c.loop-at.at c.args.text.now) few)),
     )
 
 pub loop-at-preserved : goal.loop-at-preserved
@@ -24,6 +23,6 @@ loop-at-preserved g c =
     record {
       within = omega (arith, c.min-end.ensures);
       put = piece-put (g.K.Sink.written c.args.out.now) (g.K.Sink.written c.loop-at.out) (g.K.Sink.written c.put.new.self) c.args.text.now c.loop-at.at (c.min-end.result - c.loop-at.at)
-          c.loop-at.invariant.put c.in_ok-put.ensures.ok ∙ ap (λ (n : ℕ). append_known (g.K.Sink.written c.args.out.now) (take n c.args.text.now)) past;
-      faults = omega (arith, c.in_ok-put.ensures.grows, c.loop-at.invariant.faults);
+          c.loop-at.invariant.put c.in-Ok.ensures.ok ∙ ap (λ (n : ℕ). append_known (g.K.Sink.written c.args.out.now) (take n c.args.text.now)) past;
+      faults = omega (arith, c.in-Ok.ensures.grows, c.loop-at.invariant.faults);
     }

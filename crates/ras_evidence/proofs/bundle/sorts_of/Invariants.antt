@@ -1,6 +1,0 @@
-use Rattle.std.proofs.Common.{◌≡◌, map, take}
-use Rattle.ras_evidence.specs.declared.variable.Variable.{Variable}
-use Rattle.ras_evidence.proofs.bundle.sorts_of.Given as goal
-
-abbrev pub invariant-loop-variable : goal.invariant-loop-variable
-invariant-loop-variable l = l.sorts ≡ map (λ (v : Variable). v.sort) (take l.variable-index l.variables)

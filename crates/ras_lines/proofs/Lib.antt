@@ -1,0 +1,9 @@
+pub mod Numbers
+pub mod Behind
+pub mod Loops
+pub mod LineEnds
+pub mod Exact
+pub mod FormulaLaws
+pub mod NodeLaws
+pub mod SectionLaws
+pub mod Misfits

@@ -1,0 +1,10 @@
+pub mod Numeral
+pub mod Lines
+pub mod Words
+pub mod Trees
+pub mod Fronts
+pub mod Numbers
+pub mod Formulas
+pub mod Nodes
+pub mod Sections
+pub mod Faults
