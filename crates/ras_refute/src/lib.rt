@@ -20,6 +20,7 @@ mod table;
 mod tree_fault;
 mod walk;
 
+pub use chosen::are_rows_of;
 pub use closing::closes;
 pub use law::{a_fault_is_no_closing, the_first_fault_is_one};
 pub use ras_logic::{Node, Tree};

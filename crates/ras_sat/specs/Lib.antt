@@ -1,0 +1,12 @@
+pub mod Instances
+pub mod Answers
+pub mod Needed
+pub mod Sides
+pub mod Tasks
+pub mod Facts
+pub mod Closings
+pub mod Verdicts
+pub mod Choices
+pub mod Splits
+pub mod Searches
+pub mod Efforts
