@@ -1,0 +1,4 @@
+pub mod Paths
+pub mod FirstPlaces
+pub mod Passing
+pub mod Judging

@@ -1,0 +1,20 @@
+//! Databases over a schema: what goes in are numbers, what comes out are databases, or the first fault of the numbers. The
+//! layer above uses that a `Database` is made exactly of a database of the schema, and that `value`, `holds` and `extends`
+//! are the definitions.
+#![tactic(auto)]
+
+mod checking;
+mod database;
+mod db_fault;
+mod extending;
+mod law;
+mod truth;
+
+pub use database::Database;
+pub use db_fault::{DbFault, Part};
+pub use extending::extends;
+pub use law::{a_fault_is_no_database, no_database_has_a_fault};
+pub use truth::{constant_value, holds, image_along, value};
+
+#[cfg(test)]
+mod tests;
