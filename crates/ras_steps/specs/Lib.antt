@@ -1,0 +1,4 @@
+pub mod Sights
+pub mod StepFaults
+pub mod ReplayFaults
+pub mod Choosing

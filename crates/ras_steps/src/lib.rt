@@ -1,0 +1,30 @@
+//! Steps and runs over explicit rows: what goes in are a database, a system, a state and choices, what comes out are the
+//! states that the choices lead to, or the first refusal, and the rows by which a state meets a cube. The layer above uses
+//! that `step`, `replay` and `meets` are the definitions.
+#![tactic(auto)]
+
+mod changes;
+mod fitting;
+mod law;
+mod refusal;
+mod replay_fault;
+mod replaying;
+mod rows;
+mod run;
+mod sight;
+mod step_fault;
+mod stepping;
+mod truth;
+mod witness;
+
+pub use fitting::{is_initial, state_fits};
+pub use law::{a_fault_is_no_step, a_want_of_memory_is_a_step, no_step_has_a_fault};
+pub use replay_fault::ReplayFault;
+pub use replaying::replay;
+pub use run::Run;
+pub use step_fault::StepFault;
+pub use stepping::step;
+pub use witness::Witness;
+
+#[cfg(test)]
+mod tests;
