@@ -6,3 +6,6 @@ pub mod RowChanges
 pub mod Replays
 pub mod FirstPlaces
 pub mod Judging
+pub mod Turns
+pub mod Choices
+pub mod Moves

@@ -2,3 +2,4 @@ pub mod Sights
 pub mod StepFaults
 pub mod ReplayFaults
 pub mod Choosing
+pub mod Searching

@@ -1,5 +1,5 @@
 //! What terms are read in: a state, rows that are named in it, data parameters, and in a bulk case the updated row.
-ghost use Rattle.std.specs.Prelude.{◌≡◌, [], None, Some, get_or};
+ghost use Rattle.std.specs.Prelude.{◌≡◌, ◌≤◌, length, [], None, Some, get_or};
 ghost use Rattle.ras_logic.specs.Truth.{value_of_base as the_base, value as the_value, holds as the_truth};
 ghost use Rattle.ras_steps.specs.Sights.{seen};
 ghost use Rattle.ras_system.specs.States.{rows_of as the_rows, values_at};
@@ -28,7 +28,8 @@ pub fn number_at(numbers: &[u32], place: usize) -> u32
 
 /// The rows of a relation, none where there is no such relation.
 pub fn rows_of(state: &State, relation: RelId) -> &[List<u32>]
-    ensures { result.now ≡ the_rows state.now relation }
+    ensures rows { result.now ≡ the_rows state.now relation }
+    ensures room { length result.now ≤ 4294967295 }
 {
     match state.relations.as_slice().get(relation.n as usize) {
         Some(rows) => rows.as_slice(),
