@@ -6,3 +6,4 @@ pub mod Choosing
 pub mod Opposing
 pub mod Depths
 pub mod Places
+pub mod Excluding

@@ -57,7 +57,7 @@ module _ (shape : ShapeParts) (rows formula_rows : List RelId) (params : List So
       replaced-sort shape rows params (chosen_row chosen) t
       ∙ and_then_from (sort_along shape.schema t.path) (sort_of shape rows params (chosen_row chosen t.base)) u.mid s (base-fits t.base u.mid u.first) u.second
 
-  opposite-fits : (l : Literal) → LiteralFits shape formula_rows [] l → LiteralFits shape rows params (negated (replace (chosen_row chosen) l))
+  pub opposite-fits : (l : Literal) → LiteralFits shape formula_rows [] l → LiteralFits shape rows params (negated (replace (chosen_row chosen) l))
   opposite-fits (Equal left right same) f = (f.0, term-fits left f.0 f.1, term-fits right f.0 f.2)
 
 -- the opposites of an instance's literals

@@ -19,12 +19,11 @@ use std::alloc::{AllocError, Global};
 /// premise by cases on the instances.
 ///
 /// The premise and the formulas fit the shape. An instance names a formula of the list, and for each row of the formula in
-/// order a row of the premise, of the same relation; no row is named twice. Instances may be named more than once, and none
-/// need be needed.
+/// order a row of the premise, of the same relation; no row is named twice. An instance may stand in the list more than once.
 ///
 /// A premise that clashes alone gives a lone leaf. No split of a tree is idle: without the literal that the split adds for a
-/// child, the child's tree does not close. A split with no open child comes first, then one with one open child, then the
-/// one with the fewest literals; an instance that the facts falsify is never split on.
+/// child, the child's tree does not close. Instances whose literals are known to hold, all or all but one, are split on
+/// first, then those with the fewest literals; an instance that the facts falsify is never split on.
 pub fn decide(
     alloc: Global,
     shape: &Shape,

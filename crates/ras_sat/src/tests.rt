@@ -204,6 +204,11 @@ const FORMULAS: &[(usize, &str)] = &[
     (0, "v3=c0"),
     (0, "v4=c0"),
     (0, "v5=c0"),
+    (0, "v1=c0"),
+    (0, "v2=c0"),
+    (1, "r0.0=c0 v6!=v7 v3!=c0"),
+    (0, "v0/0=v1/0"),
+    (0, "v0=u0"),
 ];
 
 #[test]
@@ -223,6 +228,16 @@ fn rows_are_decided(rt: HostRuntime) -> Result<(), Fail> {
         ("v0=c1", "3:", "3::0 "),
         ("", "4: 5: 6: 7: 8:", "5::3 6::1 leaf 7::1 leaf 8::1 leaf "),
         ("", "4: 5: 6: 7:", "v1=1 v5=1 model"),
+        ("", "5: 4: 6: 7: 8: 9: 10:", "4::2 9::1 leaf 10::1 leaf "),
+        (
+            "r1.0=c0 v6!=v7",
+            "4: 9: 10: 11:1 6:",
+            "11:1,:3 leaf leaf 6::1 leaf ",
+        ),
+        ("v0=v1", "12:", "12::1 leaf "),
+        ("v0=v1 v2!=u0", "12: 5: 4: 10:", "12::1 leaf "),
+        ("v0/0=u1", "13:", "13::1 leaf "),
+        ("v0/0!=u1", "13:", "v0=3 model"),
     ] {
         let premise = premise(alloc, 2, said)?;
         let mut instances = Vec::new(alloc);
