@@ -1,6 +1,6 @@
 -- What a model that holds of facts says of the instances.
-use Rattle.std.proofs.Common.{◌≡◌, ℕ, zero, suc, ◌+◌, ◌<◌, Bool, true, false, List, [], ◌∷◌, map, length, get_or, refl, sym, ◌∙◌, ap, subst, arith, nat_eq}
-use Rattle.std.specs.Prelude.{slice_get, Some, None, Option, All, Contains, not, IfSome}
+use Rattle.std.proofs.Common.{◌≡◌, ℕ, zero, suc, ◌+◌, ◌<◌, Bool, true, false, List, [], ◌∷◌, map, length, get_or, refl, ◌∙◌, ap, subst, arith, nat_eq}
+use Rattle.std.specs.Prelude.{slice_get, Some, None, Option, Contains, not, IfSome}
 use Rattle.std.proofs.lemmas.List.Elements.{Contains-get_or, All-contains}
 use Rattle.std.proofs.lemmas.Option.{slice_get-get_or}
 use Rattle.std.proofs.Common.{◌⊎◌, inl, inr, ⊎_elim}
@@ -18,7 +18,7 @@ use Rattle.ras_sat.specs.declared.instance.Instance.{Instance}
 use Rattle.ras_sat.specs.declared.task.Task.{Task}
 use Rattle.ras_sat.specs.Instances.{IsFalsified}
 use Rattle.ras_sat.specs.Answers.{IsEscape}
-use Rattle.ras_sat.specs.Tasks.{IsTask, AreOpposites, opposites_of_literals, opposites_at}
+use Rattle.ras_sat.specs.Tasks.{IsTask, AreOpposites, opposites_at}
 use Rattle.ras_sat.specs.Choices.{HoldsSome, HoldsNone, IsConsidered}
 use Rattle.ras_sat.specs.Verdicts.{IsCase, IsUnsplit}
 use Rattle.ras_sat.proofs.Asserting.{IsModelOfFacts}

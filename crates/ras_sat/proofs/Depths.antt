@@ -1,6 +1,6 @@
 -- How deep a search goes, and how far a step brings it.
-use Rattle.std.proofs.Common.{◌≡◌, ℕ, zero, suc, ◌+◌, ◌-◌, ◌*◌, ◌<◌, ◌≤◌, Bool, true, false, ◌||◌, List, [], ◌∷◌, ◌++◌, map, length, get_or, refl, sym, ◌∙◌, ap, subst, arith, ◌⊎◌, inl, inr, ⊎_elim}
-use Rattle.std.specs.Prelude.{All, Contains, slice_get, Some}
+use Rattle.std.proofs.Common.{◌≡◌, ℕ, zero, suc, ◌+◌, ◌-◌, ◌*◌, ◌<◌, ◌≤◌, Bool, true, false, ◌||◌, List, [], ◌∷◌, length, refl, sym, subst, arith, ◌⊎◌, inl, inr, ⊎_elim}
+use Rattle.std.specs.Prelude.{Contains}
 use Rattle.std.specs.List.{list_any, AllByRecursion, IsDistinct}
 use Rattle.std.proofs.lemmas.List.{length-map}
 use Rattle.std.proofs.lemmas.List.Elements.{Contains-append_left, Contains-push}
@@ -12,7 +12,7 @@ use Rattle.ras_logic.specs.declared.literal.Literal.{Literal}
 use Rattle.ras_sat.specs.declared.task.Task.{Task}
 use Rattle.ras_sat.specs.declared.open_split.OpenSplit.{OpenSplit}
 use Rattle.ras_sat.specs.Tasks.{opposites_at}
-use Rattle.ras_sat.specs.Splits.{AreOpen, IsEntered, instances_of}
+use Rattle.ras_sat.specs.Splits.{AreOpen, instances_of}
 use Rattle.ras_sat.specs.Efforts.{effort}
 use Rattle.ras_refute.proofs.Tables.{contains-here, contains-later}
 use Rattle.ras_sat.proofs.Asserting.{contains-at}

@@ -1,6 +1,6 @@
 -- The tree of a split, from those of its children.
-use Rattle.std.proofs.Common.{◌≡◌, ℕ, zero, suc, ◌<◌, ◌≤◌, List, [], ◌∷◌, ◌++◌, map, length, get_or, refl, sym, ◌∙◌, ap, subst, arith, append_assoc}
-use Rattle.std.specs.Prelude.{slice_get, Some, All, Contains}
+use Rattle.std.proofs.Common.{◌≡◌, ℕ, suc, ◌<◌, List, [], ◌∷◌, ◌++◌, map, length, get_or, refl, sym, ◌∙◌, ap, subst, arith, append_assoc}
+use Rattle.std.specs.Prelude.{slice_get, Some, All}
 use Rattle.std.specs.List.{flat_map}
 use Rattle.std.proofs.lemmas.List.{append-nil, length-map}
 use Rattle.std.proofs.lemmas.List.Elements.{All-nil, All-cons, All-append, All-map}
@@ -14,12 +14,12 @@ use Rattle.ras_logic.specs.declared.tree.Tree.{Tree}
 use Rattle.ras_logic.specs.Schemas.{SchemaParts}
 use Rattle.ras_logic.specs.Formulas.{negated, replace}
 use Rattle.ras_logic.specs.Trees.{AreTrees, IsWhole}
-use Rattle.ras_logic.specs.Refutations.{chosen_row, children_facts, CloseAll, Closes, AreRowsOf}
+use Rattle.ras_logic.specs.Refutations.{chosen_row, children_facts, CloseAll, Closes}
 use Rattle.ras_sat.specs.declared.instance.Instance.{Instance}
 use Rattle.ras_sat.specs.declared.task.Task.{Task}
 use Rattle.ras_sat.specs.declared.open_split.OpenSplit.{OpenSplit}
 use Rattle.ras_sat.specs.Instances.{IsByInstance}
-use Rattle.ras_sat.specs.Needed.{AreChildrenNeeded, AllNeeded}
+use Rattle.ras_sat.specs.Needed.{AllNeeded}
 use Rattle.ras_sat.specs.Tasks.{IsTask, AreOpposites, opposites_of_literals, opposites_at, schema_of}
 use Rattle.ras_sat.specs.Splits.{IsRefutation, AreRefuted, IsEachOpen, IsIdle}
 use Rattle.ras_refute.proofs.Tables.{contains-later}

@@ -7,3 +7,4 @@ pub mod Opposing
 pub mod Depths
 pub mod Places
 pub mod Excluding
+pub mod Preorder

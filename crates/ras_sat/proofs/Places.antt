@@ -21,7 +21,7 @@ use Rattle.ras_sat.specs.declared.open_split.OpenSplit.{OpenSplit}
 use Rattle.ras_sat.specs.Tasks.{IsTask, schema_of, opposites_at}
 use Rattle.ras_sat.specs.Facts.{AddsLast, DropsLast}
 use Rattle.ras_sat.specs.Verdicts.{IsCase, IsUnsplit}
-use Rattle.ras_sat.specs.Splits.{IsRefutation, AreRefuted, IsEntered, AreOpen, instances_of}
+use Rattle.ras_sat.specs.Splits.{IsRefutation, AreRefuted, AreOpen, instances_of}
 use Rattle.ras_sat.specs.Needed.{AllNeeded}
 use Rattle.ras_refute.proofs.Tables.{contains_cases, contains-here, contains-later}
 use Rattle.ras_sat.specs.Instances.{IsByInstance}

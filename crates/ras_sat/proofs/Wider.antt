@@ -1,6 +1,6 @@
 -- Trees close with more facts where they close with fewer, and need their splits with fewer where they need them with more.
-use Rattle.std.proofs.Common.{◌≡◌, ℕ, suc, ◌+◌, List, [], ◌∷◌, ◌++◌, map, length, sym, ◌∙◌, ap, subst, zero-add, ⊎_elim, length-append}
-use Rattle.std.specs.Prelude.{slice_get, Some, All, Contains}
+use Rattle.std.proofs.Common.{◌≡◌, ℕ, ◌+◌, List, [], ◌∷◌, ◌++◌, length, sym, ◌∙◌, ap, subst, zero-add, ⊎_elim, length-append}
+use Rattle.std.specs.Prelude.{Contains}
 use Rattle.std.specs.List.{AllZip}
 use Rattle.std.proofs.lemmas.List.{length-map}
 use Rattle.std.proofs.lemmas.List.Elements.{All-weaker}
@@ -15,7 +15,7 @@ use Rattle.ras_logic.specs.Trees.{AreTrees}
 use Rattle.ras_logic.specs.Refutations.{chosen_row, children_facts, CloseAll}
 use Rattle.ras_refute.proofs.Tables.{contains_cases, contains-here, contains-later}
 use Rattle.ras_refute.proofs.Wider.{clash-wider}
-use Rattle.ras_sat.specs.Needed.{AreChildrenNeeded, AllNeeded}
+use Rattle.ras_sat.specs.Needed.{AllNeeded}
 
 -- each fact of the first list is one of the second
 abbrev pub AreWithin : List Literal → List Literal → Type 0

@@ -1,8 +1,6 @@
 -- Where a search is.
-use Rattle.std.specs.Prelude.{◌≡◌, List, [], ◌∷◌, reverse, Contains, ⊤}
-use Rattle.ras_logic.specs.declared.literal.Literal.{Literal}
+use Rattle.std.specs.Prelude.{◌≡◌, [], ◌∷◌, reverse, Contains, ⊤}
 use Rattle.ras_logic.specs.declared.tree.Node.TheVariants.{Leaf}
-use Rattle.ras_logic.specs.declared.tree.Tree.{Tree}
 use Rattle.ras_logic.specs.Clashes.{FactsClash}
 use Rattle.ras_sat.specs.declared.task.Task.{Task}
 use Rattle.ras_sat.specs.declared.open_split.OpenSplit.{OpenSplit}

@@ -82,7 +82,7 @@ fn consider(
 pub fn choose(task: &Task<'_>, known: &Known, model: &Model) -> Option<usize>
     ensures none { IfNone result ((k : ℕ) → k < length task.now.opposites.now → HoldsSome model.now.db model.now.values (opposites_at task.now k)) }
     ensures within { IfSome result (λ k. k < length task.now.opposites.now) }
-    ensures falsified_none { IfSome result (λ k. HoldsNone model.now.db model.now.values (opposites_at task.now k)) }
+    ensures unfalsified { IfSome result (λ k. HoldsNone model.now.db model.now.values (opposites_at task.now k)) }
 {
     let mut best = None;
     for (instance, opposites) in task.opposites.iter().enumerate() {

@@ -62,7 +62,7 @@ fn closure_of(alloc: Global, shape: &Shape, facts: &Problem) -> Result<Option<Cl
 /// What is so of the facts of a case.
 pub fn judge(alloc: Global, task: &Task<'_>, facts: &Problem) -> Result<Verdict, AllocError>
     requires task { IsTask task.now }
-    requires case_ { IsCase task.now facts.now }
+    requires facts { IsCase task.now facts.now }
     ensures { IfOk result (IsVerdict task.now facts.now.literals) }
 {
     task.shape.known();

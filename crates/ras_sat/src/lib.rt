@@ -32,4 +32,4 @@ pub use deciding::decide;
 pub use decision::Decision;
 pub use instance::Instance;
 pub use instances::are_instances;
-pub use law::one_answer_is_right;
+pub use law::{no_child_is_idle, one_answer_is_right};

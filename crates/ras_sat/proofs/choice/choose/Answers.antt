@@ -1,4 +1,4 @@
-use Rattle.std.proofs.Common.{◌≡◌, [], List, length, get_or, refl, sym, ◌∙◌}
+use Rattle.std.proofs.Common.{◌≡◌, [], length, get_or, refl, sym, ◌∙◌}
 use Rattle.std.proofs.lemmas.Option.{slice_get_read, get_or_from_slice_get}
 use Rattle.ras_sat.proofs.Choosing.{best-more}
 use Rattle.ras_sat.proofs.choice.choose.Goals as goal

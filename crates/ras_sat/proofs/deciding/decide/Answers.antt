@@ -1,6 +1,4 @@
 use Rattle.std.proofs.Common.{◌≡◌, [], ◌∷◌, ◌++◌, List, sym, ◌∙◌, ap, subst, arith, length, length-append}
-use Rattle.ras_sat.specs.declared.step.Step.{Step}
-use Rattle.ras_sat.specs.declared.open_split.OpenSplit.{OpenSplit}
 use Rattle.ras_sat.specs.Searches.{IsLone}
 use Rattle.ras_sat.proofs.deciding.decide.Goals as goal
 

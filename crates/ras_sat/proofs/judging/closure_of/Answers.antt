@@ -1,4 +1,4 @@
-use Rattle.std.proofs.Common.{◌≡◌, ◌<◌, ◌≤◌, length, refl}
+use Rattle.std.proofs.Common.{◌≡◌, ◌≤◌, length, refl}
 use Rattle.std.specs.Prelude.{slice_get, Some}
 use Rattle.std.proofs.lemmas.Option.{slice_get_read}
 use Rattle.ras_sat.proofs.Asserting.{fact-of_table, first-clash, has-more, has-all}

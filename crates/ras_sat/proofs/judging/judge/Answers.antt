@@ -1,5 +1,3 @@
-use Rattle.std.proofs.Common.{◌≡◌}
-use Rattle.ras_closure.specs.SmallModels.{IsModelOf}
 use Rattle.ras_logic.specs.Formulas.{Fits}
 use Rattle.ras_sat.specs.Closings.{IsClosureOf}
 use Rattle.ras_sat.proofs.Asserting.{model-facts, satisfied-no_clash, case-fits, IsModelOfFacts}
@@ -14,9 +12,9 @@ returns-in-None c =
     let of : IsClosureOf c.args.task.now.shape.now c.args.facts.now c.in-Some.closure = rw c.in-Some.is at c.in_ok-closure.ensures in
     let model : IsModelOfFacts c.args.task.now.shape.now c.args.facts.now c.in_ok-model.model.db c.in_ok-model.model.values =
     model-facts c.args.task.now.shape.now c.args.facts.now c.in-Some.closure c.in_ok-model.model.db c.in_ok-model.model.values of c.in_ok-model.ensures.model in
-    let fits : Fits c.args.task.now.shape.now c.args.facts.now = case-fits c.args.task.now c.requires.task c.args.facts.now c.requires.case_ in (
+    let fits : Fits c.args.task.now.shape.now c.args.facts.now = case-fits c.args.task.now c.requires.task c.args.facts.now c.requires.facts in (
       satisfied-no_clash c.args.task.now.shape.now c.known.ensures.shape c.args.facts.now fits c.in_ok-model.model.db c.in_ok-model.model.values model,
-      model-escapes c.args.task.now c.requires.task c.args.facts.now c.requires.case_ c.in_ok-model.model.db c.in_ok-model.model.values model c.in-None.ensures.none,
+      model-escapes c.args.task.now c.requires.task c.args.facts.now c.requires.facts c.in_ok-model.model.db c.in_ok-model.model.values model c.in-None.ensures.none,
     )
 
 pub returns-in-Some-choose : goal.returns-in-Some-choose
@@ -24,8 +22,8 @@ returns-in-Some-choose c =
     let of : IsClosureOf c.args.task.now.shape.now c.args.facts.now c.in-Some.closure = rw c.in-Some.is at c.in_ok-closure.ensures in
     let model : IsModelOfFacts c.args.task.now.shape.now c.args.facts.now c.in_ok-model.model.db c.in_ok-model.model.values =
     model-facts c.args.task.now.shape.now c.args.facts.now c.in-Some.closure c.in_ok-model.model.db c.in_ok-model.model.values of c.in_ok-model.ensures.model in
-    let fits : Fits c.args.task.now.shape.now c.args.facts.now = case-fits c.args.task.now c.requires.task c.args.facts.now c.requires.case_ in (
+    let fits : Fits c.args.task.now.shape.now c.args.facts.now = case-fits c.args.task.now c.requires.task c.args.facts.now c.requires.facts in (
       satisfied-no_clash c.args.task.now.shape.now c.known.ensures.shape c.args.facts.now fits c.in_ok-model.model.db c.in_ok-model.model.values model,
-      model-unsplit c.args.task.now c.requires.task c.args.facts.now c.requires.case_ c.in_ok-model.model.db c.in_ok-model.model.values model c.in-Some-choose.instance c.in-Some-choose.ensures.within
-          c.in-Some-choose.ensures.falsified_none,
+      model-unsplit c.args.task.now c.requires.task c.args.facts.now c.requires.facts c.in_ok-model.model.db c.in_ok-model.model.values model c.in-Some-choose.instance c.in-Some-choose.ensures.within
+          c.in-Some-choose.ensures.unfalsified,
     )

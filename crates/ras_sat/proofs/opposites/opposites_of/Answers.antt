@@ -4,7 +4,6 @@ use Rattle.std.proofs.lemmas.Result.{IfOk-weaker}
 use Rattle.std.proofs.lemmas.Option.{slice_get-get_or, slice_get_within}
 use Rattle.ras_logic.specs.declared.literal.Literal.{Literal}
 use Rattle.ras_logic.specs.declared.problem.Problem.{Problem}
-use Rattle.ras_logic.specs.Formulas.{IsCube}
 use Rattle.ras_sat.specs.Tasks.{AreOpposites, opposites_of_literals}
 use Rattle.ras_sat.proofs.Opposing.{rows-small, opposites-are}
 use Rattle.ras_sat.proofs.opposites.opposites_of.Goals as goal

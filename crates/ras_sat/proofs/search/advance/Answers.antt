@@ -1,8 +1,6 @@
-use Rattle.std.proofs.Common.{◌≡◌, [], ◌∷◌, ◌++◌, List, length, get_or, refl, sym, ◌∙◌, subst, ap}
+use Rattle.std.proofs.Common.{◌≡◌, [], ◌∷◌, ◌++◌, length, get_or, refl, sym, ◌∙◌}
 use Rattle.std.specs.Prelude.{slice_get, Some}
 use Rattle.std.proofs.lemmas.Option.{slice_get_read, get_or_from_slice_get, slice_get-get_or}
-use Rattle.ras_logic.specs.declared.literal.Literal.{Literal}
-use Rattle.ras_sat.specs.declared.open_split.OpenSplit.{OpenSplit}
 use Rattle.ras_sat.specs.Tasks.{opposites_at}
 use Rattle.ras_sat.proofs.Places.{case-added, open-pushed}
 use Rattle.ras_sat.proofs.search.advance.Goals as goal
