@@ -2,3 +2,4 @@ pub mod Paths
 pub mod FirstPlaces
 pub mod Passing
 pub mod Judging
+pub mod OneFault

@@ -9,3 +9,4 @@ pub mod Judging
 pub mod Turns
 pub mod Choices
 pub mod Moves
+pub mod OneFault

@@ -1,3 +1,4 @@
+ghost use Rattle.std.specs.Prelude.{◌≡◌};
 ghost use Rattle.ras_logic.specs.declared.raw_db.RawDb.{RawDb};
 ghost use Rattle.ras_system.specs.declared.state.State.{State};
 ghost use Rattle.ras_system.specs.declared.choice.Choice.{Choice};
@@ -23,4 +24,10 @@ pub fn no_step_has_a_fault()
 pub fn a_want_of_memory_is_a_step()
     ensures { (system : SystemParts) (d : RawDb) (s : State) (c : Choice) (fault : StepFault) → IsStepFault system d s c fault → IsMemory fault
         → (next : State) × IsStep system d s c next }
+{}
+
+/// No two faults other than want of memory are the first.
+pub fn the_first_fault_is_one()
+    ensures { (system : SystemParts) (d : RawDb) (s : State) (c : Choice) (fault other : StepFault) → IsStepFault system d s c fault → IsStepFault system d s c other
+        → ¬ IsMemory fault → ¬ IsMemory other → fault ≡ other }
 {}

@@ -20,7 +20,9 @@ mod truth;
 mod witness;
 
 pub use fitting::{is_initial, state_fits};
-pub use law::{a_fault_is_no_step, a_want_of_memory_is_a_step, no_step_has_a_fault};
+pub use law::{
+    a_fault_is_no_step, a_want_of_memory_is_a_step, no_step_has_a_fault, the_first_fault_is_one,
+};
 pub use replay_fault::ReplayFault;
 pub use replaying::replay;
 pub use row_buffer::{RowBuffer, meets};
