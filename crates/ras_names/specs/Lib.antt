@@ -1,0 +1,16 @@
+pub mod Lists
+pub mod FileParts
+pub mod FileNames
+pub mod NewNames
+pub mod Terms
+pub mod Steps
+pub mod Files
+pub mod Texts
+pub mod Placed
+pub mod Unplaced
+pub mod PlacedTokens
+pub mod Checks
+pub mod TermChecks
+pub mod StepChecks
+pub mod FileChecks
+pub mod Faults
