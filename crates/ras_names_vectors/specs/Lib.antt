@@ -1,0 +1,9 @@
+pub mod Words
+pub mod Base
+pub mod Declarations
+pub mod Scopes
+pub mod Uses
+pub mod Bulk
+pub mod Sorts
+pub mod Targets
+pub mod Orders

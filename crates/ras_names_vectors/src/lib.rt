@@ -1,0 +1,19 @@
+//! Worked specification texts on which the definitions of `ras_names` are shown to say what they should. Each function has an
+//! empty body, and its contract holds what is so, and what is not.
+#![tactic(auto)]
+
+mod bulk;
+mod declarations;
+mod orders;
+mod scopes;
+mod sorts;
+mod targets;
+mod uses;
+
+pub use bulk::faults_of_bulk_cases;
+pub use declarations::names_declared_twice;
+pub use orders::the_first_of_two_faults;
+pub use scopes::names_of_rows_and_parameters;
+pub use sorts::sorts_and_cycles;
+pub use targets::targets_assigned_twice;
+pub use uses::names_that_stand_for_nothing;
