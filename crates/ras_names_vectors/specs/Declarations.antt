@@ -37,7 +37,7 @@ step_twice = record (named (name 7 "s")) { sorts = name 15 "A" ∷ []; steps = s
 
 -- system s;
 abbrev pub nothing_declared : File
-nothing_declared = record (named (name 7 "s")) {  }
+nothing_declared = record (named (name 7 "s")) {}
 
 -- system A; sort A;
 abbrev pub system_and_sort : File

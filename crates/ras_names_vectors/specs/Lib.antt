@@ -7,3 +7,4 @@ pub mod Bulk
 pub mod Sorts
 pub mod Targets
 pub mod Orders
+pub mod Many

@@ -1,10 +1,8 @@
 -- Short forms of the parts of a placed file, so that a vector reads like its text.
-use Rattle.std.specs.Prelude.{ℕ, true, false, List, [], ◌∷◌, Option, codes}
+use Rattle.std.specs.Prelude.{ℕ, true, false, List, [], Option, codes}
 use Prim.Native.String.{String}
-use Rattle.ras_syntax.specs.Grammar.{Text}
 use Rattle.ras_names.specs.declared.spec_fault.SpecKind.{SpecKind}
 use Rattle.ras_names.specs.declared.spec_fault.SpecFault.{SpecFault}
-use Rattle.ras_names.specs.Placed as placed
 use Rattle.ras_names.specs.Placed.{Name, Declared, Function, Initial, Variable, Relation, Base, Term, Literal, Conjunction, Guard, Update, Assignment, Case, Each, Step, Goal, File}
 
 abbrev pub name : ℕ → String → Name

@@ -3,17 +3,21 @@
 #![tactic(auto)]
 
 mod bulk;
+mod counts;
 mod declarations;
 mod orders;
 mod scopes;
 mod sorts;
 mod targets;
 mod uses;
+mod widths;
 
 pub use bulk::faults_of_bulk_cases;
+pub use counts::{counts_at_their_limits, counts_beyond_their_limits, too_many_comes_first};
 pub use declarations::names_declared_twice;
 pub use orders::the_first_of_two_faults;
 pub use scopes::names_of_rows_and_parameters;
 pub use sorts::sorts_and_cycles;
 pub use targets::targets_assigned_twice;
 pub use uses::names_that_stand_for_nothing;
+pub use widths::{too_wide_comes_first, widths_at_their_limits, widths_beyond_their_limits};
