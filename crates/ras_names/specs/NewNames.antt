@@ -12,7 +12,7 @@ relation_names names = map (λ (r : RelNames). r.name) names.relations
 
 -- the shared names that stand above all steps
 abbrev pub declared_names : Names → List Text
-declared_names names = names.sorts ++ (names.functions ++ (names.constants ++ (names.vars ++ relation_names names)))
+declared_names names = (((names.sorts ++ names.functions) ++ names.constants) ++ names.vars) ++ relation_names names
 
 -- the shared names of these steps and of what stands above them
 abbrev pub shared_names : Names → List StepNames → List Text

@@ -8,3 +8,5 @@ pub mod Sorts
 pub mod Targets
 pub mod Orders
 pub mod Many
+pub mod Processes
+pub mod Denoted

@@ -5,6 +5,7 @@
 mod bulk;
 mod counts;
 mod declarations;
+mod denoted;
 mod orders;
 mod scopes;
 mod sorts;
@@ -15,6 +16,7 @@ mod widths;
 pub use bulk::faults_of_bulk_cases;
 pub use counts::{counts_at_their_limits, counts_beyond_their_limits, too_many_comes_first};
 pub use declarations::names_declared_twice;
+pub use denoted::{texts_of_systems, texts_without_a_fault};
 pub use orders::the_first_of_two_faults;
 pub use scopes::names_of_rows_and_parameters;
 pub use sorts::sorts_and_cycles;
