@@ -2,6 +2,7 @@
 //! the grammar come in, and the words of `specs/` go out: the layer above uses `Denotes`, `FileDenotes` and `first_fault`.
 #![tactic(auto)]
 
+pub mod law;
 mod names;
 mod spec_fault;
 

@@ -1,0 +1,40 @@
+-- Lists that go together one by one.
+use Rattle.std.proofs.Common.{◌≡◌, ℕ, zero, suc, List, [], ◌∷◌, refl, ◌∙◌, ap, ⊎_elim}
+use Rattle.std.specs.Prelude.{slice_get, Some, All, map, flat_map}
+use Rattle.std.proofs.lemmas.List.Elements.{All-head, All-tail}
+use Rattle.ras_names.specs.Lists.{OneByOne}
+use Rattle.ras_names.proofs.Numbered.{in_either}
+
+module _ {A B : Type 0} (R S : A → B → Type 0) where
+  -- where each element goes together with one at most, so does the list
+  pub one_by_one-unique : (xs : List A) (ys zs : List B) → ((k : ℕ) (x : A) → slice_get xs k ≡ Some x → (y z : B) → R x y → S x z → y ≡ z)
+      → OneByOne R xs ys → OneByOne S xs zs → ys ≡ zs
+  one_by_one-unique [] [] [] f h k = refl
+  one_by_one-unique [] [] (z ∷ zs) f h k = absurd k
+  one_by_one-unique [] (y ∷ ys) zs f h k = absurd h
+  one_by_one-unique (x ∷ xs) [] zs f h k = absurd h
+  one_by_one-unique (x ∷ xs) (y ∷ ys) [] f h k = absurd k
+  one_by_one-unique (x ∷ xs) (y ∷ ys) (z ∷ zs) f h k =
+      ap (λ (w : B). w ∷ ys) (f 0 x refl y z h.0 k.0) ∙ ap (λ ws. z ∷ ws) (one_by_one-unique xs ys zs (λ j w e. f (suc j) w e) h.1 k.1)
+
+-- what holds of each of the second list
+pub one_by_one-all : {A B : Type 0} (R : A → B → Type 0) (P : B → Type 0) (xs : List A) (ys : List B) → OneByOne R xs ys → All P ys
+    → OneByOne (λ x y. R x y × P y) xs ys
+one_by_one-all R P [] [] h p = tt
+one_by_one-all R P [] (y ∷ ys) h p = absurd h
+one_by_one-all R P (x ∷ xs) [] h p = absurd h
+one_by_one-all R P (x ∷ xs) (y ∷ ys) h p = ((h.0, All-head P y ys p), one_by_one-all R P xs ys h.1 (All-tail P y ys p))
+
+-- an element of a list that is made of lists of pairs
+in_pairs : {X Y : Type 0} (x : X) (ys : List Y) (k : ℕ) (p : X × Y) → slice_get (map (λ y. (x, y)) ys) k ≡ Some p → x ≡ p.0
+in_pairs x [] k p e = absurd (cc)
+in_pairs {X} {Y} x (y ∷ ys) zero p e = let same : ◌≡◌ {A = X × Y} (x, y) p = cc in ap (λ (q : X × Y). q.0) same
+in_pairs x (y ∷ ys) (suc k) p e = in_pairs x ys k p e
+
+pub pair_from : {X Y : Type 0} (parts : X → List Y) (xs : List X) (k : ℕ) (p : X × Y)
+    → slice_get (flat_map (λ (x : X). map (λ (y : Y). (x, y)) (parts x)) xs) k ≡ Some p → (j : ℕ) × (slice_get xs j ≡ Some p.0)
+pair_from parts [] k p e = absurd (cc)
+pair_from {X} {Y} parts (x ∷ xs) k p e =
+    ⊎_elim (λ here. (0, ap (λ (z : X). Some z) (in_pairs x (parts x) k p here)))
+    (λ later. let r = pair_from parts xs later.0 p later.1 in (suc r.0, r.1))
+    (in_either (map (λ (y : Y). (x, y)) (parts x)) (flat_map (λ (z : X). map (λ (y : Y). (z, y)) (parts z)) xs) k p e)
