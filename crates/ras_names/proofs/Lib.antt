@@ -4,3 +4,6 @@ pub mod OneTerm
 pub mod OneStep
 pub mod ClearNames
 pub mod OneSystem
+pub mod Passing
+pub mod Among
+pub mod PassTerms

@@ -76,3 +76,24 @@ numbered-more xs name h new n i j a b = go (in_either xs (name ∷ []) i n a) (i
     go (inl p) (inr q) = absurd (absent q.0 i q.1 p)
     go (inr p) (inl q) = absurd (absent p.0 j p.1 q)
     go (inr p) (inr q) = last xs i a (absent p.0 i p.1) ∙ sym (last xs j b (absent q.0 j q.1))
+
+-- where exactly an element of two lists stands
+in_either_at : {X : Type 0} (xs ys : List X) (k : ℕ) (x : X) → slice_get (xs ++ ys) k ≡ Some x
+    → (slice_get xs k ≡ Some x) ⊎ ((j : ℕ) × (k ≡ length xs + j) × (slice_get ys j ≡ Some x))
+in_either_at [] ys k x e = inr (k, (let same : k ≡ 0 + k = omega arith in same), e)
+in_either_at (z ∷ xs) ys zero x e = inl e
+in_either_at (z ∷ xs) ys (suc k) x e =
+    ⊎_elim (λ left. inl left) (λ right. inr (right.0, (let same : suc k ≡ length (z ∷ xs) + right.0 = omega (arith, right.1) in same), right.2)) (in_either_at xs ys k x e)
+
+pub numbered-append : (xs ys : List Text) → AreNumbered xs → AreNumbered ys → AreApart xs ys → AreNumbered (xs ++ ys)
+numbered-append xs ys one other apart n i j a b = go (in_either_at xs ys i n a) (in_either_at xs ys j n b)
+  where
+    go : ((slice_get xs i ≡ Some n) ⊎ ((k : ℕ) × (i ≡ length xs + k) × (slice_get ys k ≡ Some n)))
+        → ((slice_get xs j ≡ Some n) ⊎ ((k : ℕ) × (j ≡ length xs + k) × (slice_get ys k ≡ Some n))) → i ≡ j
+    go (inl p) (inl q) = one n i j p q
+    go (inl p) (inr q) = absurd (apart n i q.0 p q.2)
+    go (inr p) (inl q) = absurd (apart n j p.0 q p.2)
+    go (inr p) (inr q) = let e : p.0 ≡ q.0 = other n p.0 q.0 p.2 q.2 in omega (arith, e, p.1, q.1)
+
+pub apart-append : (xs ys zs : List Text) → AreApart xs ys → AreApart xs zs → AreApart xs (ys ++ zs)
+apart-append xs ys zs one other n i j a b = ⊎_elim (λ p. one n i j a p) (λ q. other n i q.0 a q.1) (in_either ys zs j n b)

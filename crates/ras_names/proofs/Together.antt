@@ -1,5 +1,5 @@
 -- Lists that go together one by one.
-use Rattle.std.proofs.Common.{◌≡◌, ℕ, zero, suc, List, [], ◌∷◌, refl, ◌∙◌, ap, ⊎_elim}
+use Rattle.std.proofs.Common.{subst, sym, length, ◌≡◌, ℕ, zero, suc, List, [], ◌∷◌, refl, ◌∙◌, ap, ⊎_elim}
 use Rattle.std.specs.Prelude.{slice_get, Some, All, map, flat_map}
 use Rattle.std.proofs.lemmas.List.Elements.{All-head, All-tail}
 use Rattle.ras_names.specs.Lists.{OneByOne}
@@ -38,3 +38,33 @@ pair_from {X} {Y} parts (x ∷ xs) k p e =
     ⊎_elim (λ here. (0, ap (λ (z : X). Some z) (in_pairs x (parts x) k p here)))
     (λ later. let r = pair_from parts xs later.0 p later.1 in (suc r.0, r.1))
     (in_either (map (λ (y : Y). (x, y)) (parts x)) (flat_map (λ (z : X). map (λ (y : Y). (z, y)) (parts z)) xs) k p e)
+
+-- what goes together with an element
+pub one_by_one-to : {A B : Type 0} (R : A → B → Type 0) (xs : List A) (ys : List B) (k : ℕ) (x : A) → OneByOne R xs ys → slice_get xs k ≡ Some x
+    → (y : B) × (slice_get ys k ≡ Some y) × R x y
+one_by_one-to R [] ys k x h e = absurd (cc)
+one_by_one-to R (z ∷ xs) [] k x h e = absurd h
+one_by_one-to R (z ∷ xs) (y ∷ ys) zero x h e = let same : z ≡ x = cc in (y, refl, subst (λ w. R w y) same h.0)
+one_by_one-to R (z ∷ xs) (y ∷ ys) (suc k) x h e = one_by_one-to R xs ys k x h.1 e
+
+pub one_by_one-at : {A B : Type 0} (R : A → B → Type 0) (xs : List A) (ys : List B) (k : ℕ) (x : A) (y : B) → OneByOne R xs ys → slice_get xs k ≡ Some x
+    → slice_get ys k ≡ Some y → R x y
+one_by_one-at {A} {B} R xs ys k x y h e i =
+    let t = one_by_one-to R xs ys k x h e in
+    let same : t.0 ≡ y = some_is t.0 y (sym t.1 ∙ i) in subst (R x) same t.2
+  where
+    some_is : (a b : B) → Some a ≡ Some b → a ≡ b
+    some_is a b q = cc
+
+pub one_by_one-length : {A B : Type 0} (R : A → B → Type 0) (xs : List A) (ys : List B) → OneByOne R xs ys → length xs ≡ length ys
+one_by_one-length R [] [] h = refl
+one_by_one-length R [] (y ∷ ys) h = absurd h
+one_by_one-length R (x ∷ xs) [] h = absurd h
+one_by_one-length R (x ∷ xs) (y ∷ ys) h = ap suc (one_by_one-length R xs ys h.1)
+
+-- the first list made from another
+pub one_by_one-map : {A B C : Type 0} (R : A → B → Type 0) (f : C → A) (xs : List C) (ys : List B) → OneByOne R (map f xs) ys → OneByOne (λ x y. R (f x) y) xs ys
+one_by_one-map R f [] [] h = tt
+one_by_one-map R f [] (y ∷ ys) h = absurd h
+one_by_one-map R f (x ∷ xs) [] h = absurd h
+one_by_one-map R f (x ∷ xs) (y ∷ ys) h = (h.0, one_by_one-map R f xs ys h.1)

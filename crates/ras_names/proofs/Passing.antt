@@ -1,0 +1,45 @@
+-- Checks none of which fails.
+use Rattle.std.proofs.Common.{◌≡◌, ℕ, suc, ◌+◌, Bool, true, false, List, [], ◌∷◌, ◌++◌, refl, subst, arith}
+use Rattle.std.specs.Prelude.{Some, None, slice_get, flat_map, cond, map, not}
+use Rattle.std.specs.List.{enumerate_from}
+use Rattle.ras_names.specs.Checks.{Check, first_of, for_each, for_each_from}
+
+abbrev pub Passes : List Check → Type 0
+Passes checks = first_of checks ≡ None
+
+pub pass_first : (c : Check) (checks : List Check) → c.fails ≡ false → Passes checks → Passes (c ∷ checks)
+pass_first c checks h k = rw h k
+
+pub pass_one : (c : Check) → c.fails ≡ false → Passes (c ∷ [])
+pass_one c h = pass_first c [] h refl
+
+pub pass_both : (xs ys : List Check) → Passes xs → Passes ys → Passes (xs ++ ys)
+pass_both [] ys h k = k
+pass_both (c ∷ xs) ys h k = go c.fails h (pass_both xs ys)
+  where
+    go : (b : Bool) → cond b (Some c.fault) (first_of xs) ≡ None → (Passes xs → Passes ys → Passes (xs ++ ys)) → cond b (Some c.fault) (first_of (xs ++ ys)) ≡ None
+    go true i later = absurd (cc)
+    go false i later = later i k
+
+pub pass_map : {A : Type 0} (check : A → Check) (xs : List A) → ((k : ℕ) (x : A) → slice_get xs k ≡ Some x → (check x).fails ≡ false) → Passes (map check xs)
+pass_map check [] each = refl
+pass_map check (x ∷ xs) each = pass_first (check x) (map check xs) (each 0 x refl) (pass_map check xs (λ k y e. each (suc k) y e))
+
+pub pass_each_from : {A : Type 0} (n : ℕ) (checks : ℕ → A → List Check) (xs : List A) → ((k : ℕ) (x : A) → slice_get xs k ≡ Some x → Passes (checks (n + k) x))
+    → Passes (for_each_from n checks xs)
+pass_each_from n checks [] each = refl
+pass_each_from {A} n checks (x ∷ xs) each =
+    pass_both (checks n x) (flat_map (λ (q : ℕ × A). checks q.0 q.1) (enumerate_from (n + 1) xs))
+    (subst (λ (m : ℕ). Passes (checks m x)) (let same : n + 0 ≡ n = omega arith in same) (each 0 x refl))
+    (pass_each_from (n + 1) checks xs (λ k y known. subst (λ (m : ℕ). Passes (checks m y)) (let same : n + suc k ≡ n + 1 + k = omega arith in same) (each (suc k) y known)))
+
+pub pass_each : {A : Type 0} (checks : ℕ → A → List Check) (xs : List A) → ((k : ℕ) (x : A) → slice_get xs k ≡ Some x → Passes (checks k x)) → Passes (for_each checks xs)
+pass_each checks xs each = pass_each_from 0 checks xs (λ k x known. subst (λ (m : ℕ). Passes (checks m x)) (let same : k ≡ 0 + k = omega arith in same) (each k x known))
+
+pub not-passes : (b : Bool) → b ≡ true → not b ≡ false
+not-passes true h = refl
+not-passes false h = absurd (cc)
+
+pub not_true : (b : Bool) → (b ≡ true → ⊥) → b ≡ false
+not_true true h = absurd (h refl)
+not_true false h = refl
