@@ -7,3 +7,5 @@ pub mod OneSystem
 pub mod Passing
 pub mod Among
 pub mod PassTerms
+pub mod PassSteps
+pub mod PassEach

@@ -60,7 +60,7 @@ module _ (scope : Scope) (clear : IsClear scope) (shape : ShapeParts) (params : 
       one_by_one-unique Good Good (literals c) xs ys (λ n l e x y. literal-unique l x y)
       (one_by_one-all (LiteralDenotes scope) fits (literals c) xs h i) (one_by_one-all (LiteralDenotes scope) fits (literals c) ys k j)
 
-  target-unique : (name : Text) (column : Option Text) (t u : Target) → TargetDenotes scope name column t → TargetDenotes scope name column u → t ≡ u
+  pub target-unique : (name : Text) (column : Option Text) (t u : Target) → TargetDenotes scope name column t → TargetDenotes scope name column u → t ≡ u
   target-unique name None (Var v) (Var w) h k = ap (λ (n : ℕ). Var (record { n = n })) (clear.vars name v.n w.n h k)
   target-unique name None (Var v) (Cell m n) h k = absurd k
   target-unique name None (Cell m n) u h k = absurd h
@@ -128,7 +128,7 @@ module _ (names : Names) (shape : ShapeParts) (relations_numbered : AreNumbered 
       case-same s t p b c clear relation h (subst (GoodCase s t p) same k)
 
   module _ (s : grammar.Step) (t : Transition) (clear : IsClear (step_scope names s t)) (each_numbered : (j : ℕ) (e : grammar.Each) → slice_get s.eachs j ≡ Some e → AreNumbered (names_of_rows s.rows ++ e.row ∷ [])) where
-    each_clear : (j : ℕ) (e : grammar.Each) → slice_get s.eachs j ≡ Some e → (b : Bulk) → IsClear (each_scope names s e t b)
+    pub each_clear : (j : ℕ) (e : grammar.Each) → slice_get s.eachs j ≡ Some e → (b : Bulk) → IsClear (each_scope names s e t b)
     each_clear j e at b = record {
       functions = clear.functions;
       constants = clear.constants;

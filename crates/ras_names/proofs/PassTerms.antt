@@ -52,6 +52,9 @@ declared_found ds k d name numbered at e = record {
   of = ap (option_map (λ (x : Declared). x.of.text)) (found_at (λ (x : Declared). x.name.text) ds k d name numbered at e);
 }
 
+pub some_not_none : (o : Option Text) (text : Text) → o ≡ Some text → o ≡ None → ⊥
+some_not_none o text e n = let q : ◌≡◌ {A = Option Text} (Some text) None = sym e ∙ n in cc
+
 pub bare-sort : (shape : ShapeParts) (rows : List RelId) (params : List SortId) (b : Base) (s : SortId) → sort_of shape rows params (base_term b) ≡ Some s
     → sort_of_base shape rows params b ≡ Some s
 bare-sort shape rows params b s h =
@@ -227,9 +230,6 @@ module _ (p : placed.File) (system : SystemParts) (denotes : FileDenotes (file_o
       some_text : (o : Option Text) (text : Text) (a : SortId) → o ≡ Some text → HasNumber names.sorts text a.n → IsSortText o a
       some_text o text a e h = subst (λ (q : Option Text). IsSortText q a) (sym e) h
 
-      not_none : (o : Option Text) (text : Text) → o ≡ Some text → o ≡ None → ⊥
-      not_none o text e n = let q : ◌≡◌ {A = Option Text} (Some text) None = sym e ∙ n in cc
-
       -- functions around a base
       pub record IsGoodWithin (fs : List Name) (b : placed.Base) (a : SortId) : Type 0 where
         pub functions : Passes (map (used_check (function_texts p.functions)) fs)
@@ -246,7 +246,7 @@ module _ (p : placed.File) (system : SystemParts) (denotes : FileDenotes (file_o
             inside = good.passes;
             arguments = refl;
             sort = some_text (base_sort checked (placed.plain n)) good.text a good.of good.sort;
-            undef_only = λ e. absurd (not_none (base_sort checked (placed.plain n)) good.text good.of e);
+            undef_only = λ e. absurd (some_not_none (base_sort checked (placed.plain n)) good.text good.of e);
           }
       within-good [] (placed.cell row column) u a h sort =
           let good : IsGoodCell row column a = cell-good row column h.0 h.1 a h.2 (bare-sort shape relations sorts (base.Cell h.0 h.1) a (subst (λ t. has_sort t a) h.3 sort)) in record {
@@ -254,7 +254,7 @@ module _ (p : placed.File) (system : SystemParts) (denotes : FileDenotes (file_o
             inside = good.passes;
             arguments = refl;
             sort = some_text (cell_sort checked row column) good.text a good.of good.sort;
-            undef_only = λ e. absurd (not_none (cell_sort checked row column) good.text good.of e);
+            undef_only = λ e. absurd (some_not_none (cell_sort checked row column) good.text good.of e);
           }
       within-good (f ∷ fs) b u a h sort =
           let inside = image-inside shape relations sorts h.0 h.1 a (subst (λ t. has_sort t a) h.4 sort) in
@@ -273,9 +273,9 @@ module _ (p : placed.File) (system : SystemParts) (denotes : FileDenotes (file_o
             functions = pass_first (used_check (function_texts p.functions) f) (map (used_check (function_texts p.functions)) fs) (not-passes _ (among_at (function_texts p.functions) f.text h.1.n number)) more.functions;
             inside = more.inside;
             arguments = pass_both (argument_checks checked fs b) (last ∷ []) more.arguments
-                (pass_one last (not-passes _ (agree-good (source_of p f) (sort_within checked fs b) inside.argument source_sort more.sort (λ n m. not_none (source_of p f) z.0.source.text source n))));
+                (pass_one last (not-passes _ (agree-good (source_of p f) (sort_within checked fs b) inside.argument source_sort more.sort (λ n m. some_not_none (source_of p f) z.0.source.text source n))));
             sort = some_text (target_of p f) z.0.target.text a target (subst (λ (s : SortId). HasNumber names.sorts z.0.target.text s.n) inside.target_is denotes_it.target);
-            undef_only = λ e. absurd (not_none (target_of p f) z.0.target.text target e);
+            undef_only = λ e. absurd (some_not_none (target_of p f) z.0.target.text target e);
           }
 
       pub term-passes : (t : placed.Term) (u : Term) (a : SortId) → TermDenotes here (term_of t) u → has_sort u a → Passes (term_checks checked t)

@@ -1,9 +1,10 @@
 -- Lists that go together one by one.
-use Rattle.std.proofs.Common.{subst, sym, length, ◌≡◌, ℕ, zero, suc, List, [], ◌∷◌, refl, ◌∙◌, ap, ⊎_elim}
+use Rattle.std.proofs.Common.{◌≡◌, ℕ, zero, suc, ◌+◌, List, [], ◌∷◌, ◌++◌, length, take, refl, sym, ◌∙◌, ap, subst, arith, ⊎_elim}
 use Rattle.std.specs.Prelude.{slice_get, Some, All, map, flat_map}
+use Rattle.std.proofs.lemmas.List.{length-append}
 use Rattle.std.proofs.lemmas.List.Elements.{All-head, All-tail}
 use Rattle.ras_names.specs.Lists.{OneByOne}
-use Rattle.ras_names.proofs.Numbered.{in_either}
+use Rattle.ras_names.proofs.Numbered.{in_left, in_right, in_either}
 
 module _ {A B : Type 0} (R S : A → B → Type 0) where
   -- where each element goes together with one at most, so does the list
@@ -68,3 +69,27 @@ one_by_one-map R f [] [] h = tt
 one_by_one-map R f [] (y ∷ ys) h = absurd h
 one_by_one-map R f (x ∷ xs) [] h = absurd h
 one_by_one-map R f (x ∷ xs) (y ∷ ys) h = (h.0, one_by_one-map R f xs ys h.1)
+
+-- one more on both sides
+pub one_by_one-more : {A B : Type 0} (R : A → B → Type 0) (xs : List A) (ys : List B) (x : A) (y : B) → OneByOne R xs ys → R x y → OneByOne R (xs ++ x ∷ []) (ys ++ y ∷ [])
+one_by_one-more R [] [] x y h r = (r, tt)
+one_by_one-more R [] (z ∷ ys) x y h r = absurd h
+one_by_one-more R (w ∷ xs) [] x y h r = absurd h
+one_by_one-more R (w ∷ xs) (z ∷ ys) x y h r = (h.0, one_by_one-more R xs ys x y h.1 r)
+
+-- The i-th part of the j-th element, where all parts stand in one list; other parts, as many, are counted.
+pub part_at : {X Y Z W : Type 0} (counted : X → List Y) (part : W → List Z) (made : X → W) → ((x : X) → length (counted x) ≡ length (part (made x)))
+    → (xs : List X) (j : ℕ) (x : X) (i : ℕ) (z : Z) → slice_get xs j ≡ Some x → slice_get (part (made x)) i ≡ Some z
+    → slice_get (flat_map part (map made xs)) (length (flat_map counted (take j xs)) + i) ≡ Some z
+part_at counted part made same [] j x i z e h = absurd (cc)
+part_at {X} {Y} {Z} {W} counted part made same (y ∷ ys) zero x i z e h =
+    let one : y ≡ x = cc in
+    subst (λ (n : ℕ). slice_get (part (made y) ++ flat_map part (map made ys)) n ≡ Some z) (let q : i ≡ 0 + i = omega arith in q)
+    (in_left (part (made y)) (flat_map part (map made ys)) i z (subst (λ (w : X). slice_get (part (made w)) i ≡ Some z) (sym one) h))
+part_at {X} {Y} {Z} {W} counted part made same (y ∷ ys) (suc j) x i z e h =
+    let rest = part_at counted part made same ys j x i z e h in
+    let before : List Y = flat_map counted (take j ys) in
+    let longer : length (counted y ++ before) ≡ length (counted y) + length before = length-append (counted y) before in
+    subst (λ (n : ℕ). slice_get (part (made y) ++ flat_map part (map made ys)) n ≡ Some z)
+    (let q : length (part (made y)) + (length before + i) ≡ length (counted y ++ before) + i = omega (arith, longer, same y) in q)
+    (in_right (part (made y)) (flat_map part (map made ys)) (length before + i) z rest)
