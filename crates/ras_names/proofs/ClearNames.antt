@@ -34,19 +34,19 @@ module _ (names : Names) (h : AreNewNames names) where
   abbrev before_relations : List Text
   before_relations = before_vars ++ names.vars
 
-  declared : AreNumbered (declared_names names)
+  pub declared : AreNumbered (declared_names names)
   declared = left-numbered (declared_names names) (map (λ (s : StepNames). s.name) names.steps) (different-numbered (shared_names names names.steps) h.shared)
 
   pub relations-numbered : AreNumbered (relation_names names)
   relations-numbered = right-numbered before_relations (relation_names names) declared
 
-  variables : AreNumbered before_relations
+  pub variables : AreNumbered before_relations
   variables = left-numbered before_relations (relation_names names) declared
 
-  constants : AreNumbered before_vars
+  pub constants : AreNumbered before_vars
   constants = left-numbered before_vars names.vars variables
 
-  functions : AreNumbered before_constants
+  pub functions : AreNumbered before_constants
   functions = left-numbered before_constants names.constants constants
 
   pub sorts-numbered : AreNumbered names.sorts

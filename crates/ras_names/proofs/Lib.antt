@@ -9,3 +9,5 @@ pub mod Among
 pub mod PassTerms
 pub mod PassSteps
 pub mod PassEach
+pub mod NoCycle
+pub mod PassFile

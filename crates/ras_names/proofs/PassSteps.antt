@@ -76,7 +76,7 @@ module _ (p : placed.File) (system : SystemParts) (denotes : FileDenotes (file_o
   pub relation_known : (n : Name) (r : RelId) → HasNumber (relation_names (names p system denotes)) n.text r.n → (used_check (relation_texts p) n).fails ≡ false
   relation_known n r h = not-passes _ (among_at (relation_texts p) n.text r.n (subst (λ (ts : List Text). HasNumber ts n.text r.n) (relations_are p system denotes) h))
 
-  sort_known : (n : Name) (s : SortId) → HasNumber (names p system denotes).sorts n.text s.n → (used_check (texts p.sorts) n).fails ≡ false
+  pub sort_known : (n : Name) (s : SortId) → HasNumber (names p system denotes).sorts n.text s.n → (used_check (texts p.sorts) n).fails ≡ false
   sort_known n s h = not-passes _ (among_at (texts p.sorts) n.text s.n (subst (λ (ts : List Text). HasNumber ts n.text s.n) (sorts_are p system denotes) h))
 
   -- the rows and the data parameters

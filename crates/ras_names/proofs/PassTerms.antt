@@ -42,11 +42,11 @@ use Rattle.ras_names.proofs.Passing.{Passes, pass_first, pass_one, pass_both, pa
 use Rattle.ras_names.proofs.Among.{same_text, among_at, map-map, map_from, found_at, below}
 
 -- what is declared with a name
-record IsFound (ds : List Declared) (name : Text) (d : Declared) : Type 0 where
-  among : is_among (declared_texts ds) name ≡ true
-  of : declared_of ds name ≡ Some d.of.text
+pub record IsFound (ds : List Declared) (name : Text) (d : Declared) : Type 0 where
+  pub among : is_among (declared_texts ds) name ≡ true
+  pub of : declared_of ds name ≡ Some d.of.text
 
-declared_found : (ds : List Declared) (k : ℕ) (d : Declared) (name : Text) → AreNumbered (declared_texts ds) → slice_get ds k ≡ Some d → d.name.text ≡ name → IsFound ds name d
+pub declared_found : (ds : List Declared) (k : ℕ) (d : Declared) (name : Text) → AreNumbered (declared_texts ds) → slice_get ds k ≡ Some d → d.name.text ≡ name → IsFound ds name d
 declared_found ds k d name numbered at e = record {
   among = among_at (declared_texts ds) name k (map-at (λ (x : Declared). x.name.text) ds k d at ∙ ap (λ (n : Text). Some n) e);
   of = ap (option_map (λ (x : Declared). x.of.text)) (found_at (λ (x : Declared). x.name.text) ds k d name numbered at e);
