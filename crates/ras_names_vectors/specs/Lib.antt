@@ -10,3 +10,4 @@ pub mod Orders
 pub mod Many
 pub mod Processes
 pub mod Denoted
+pub mod Tokens
