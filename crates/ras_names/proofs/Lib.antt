@@ -11,3 +11,4 @@ pub mod PassSteps
 pub mod PassEach
 pub mod NoCycle
 pub mod PassFile
+pub mod OneFile

@@ -1,6 +1,6 @@
 -- Where a step denotes, no check of its inside fails.
 use Rattle.std.proofs.Common.{◌≡◌, ℕ, ◌+◌, ◌<◌, ◌≤◌, false, List, [], ◌∷◌, ◌++◌, length, take, map, refl, sym, ◌∙◌, ap, subst, arith, append_assoc}
-use Rattle.std.specs.Prelude.{option_and_then, ◌≢◌, Option, Some, slice_get, not, All, AllPairs, Contains, nat_le}
+use Rattle.std.specs.Prelude.{option_and_then, ◌≢◌, Some, slice_get, not, All, AllPairs, Contains, nat_le}
 use Rattle.std.proofs.lemmas.List.{map-append, length-map}
 use Rattle.std.proofs.lemmas.Option.{slice_get_within}
 use Rattle.ras_logic.specs.declared.ids.SortId.{SortId}
@@ -40,7 +40,7 @@ use Rattle.ras_names.proofs.ClearNames.{map-at, all-at, relations-numbered, sort
 use Rattle.ras_names.proofs.Numbered.{at_contains}
 use Rattle.ras_names.proofs.Passing.{Passes, pass_first, pass_one, pass_both, pass_each, pass_each_from, not-passes}
 use Rattle.ras_names.proofs.Among.{among_at, not_among, take_at, map_from, below}
-use Rattle.ras_names.proofs.PassTerms.{bare-sort, some_not_none, names, IsSortText, agree-good, column-good, IsGoodColumn, here, checked, RowsDenote, ParamsDenote, within-good, term-passes, conjunction-passes}
+use Rattle.ras_names.proofs.PassTerms.{bare-sort, some_not_none, names, IsSortText, is_sort_text, agree-good, column-good, IsGoodColumn, here, checked, RowsDenote, ParamsDenote, within-good, term-passes, conjunction-passes}
 use Rattle.ras_names.proofs.PassSteps.{rows_are, params_are, apart_at, relation_known, rows-pass, params-pass, updates-pass, guard-passes}
 
 -- the assignments of a case to the row behind the row parameters
@@ -112,7 +112,7 @@ module _ (p : placed.File) (system : SystemParts) (denotes : FileDenotes (file_o
         let second : Check = used_check (declared_texts (columns_named p e.relation.text)) a.column in
         let third : Check = check a.row.at RepeatedTarget (is_among (map (λ (b : placed.Assignment). b.column.text) (take k assignments)) a.column.text) in
         let last : Check = check a.at WrongSort (not (agree (declared_of (columns_named p e.relation.text) a.column.text) (term_sort seen a.term))) in
-        let column_text : IsSortText p system denotes (declared_of (columns_named p e.relation.text) a.column.text) s = subst (λ (o : Option Text). IsSortText p system denotes o s) (sym good.of) good.sort in
+        let column_text : IsSortText p system denotes (declared_of (columns_named p e.relation.text) a.column.text) s = is_sort_text p system denotes (declared_of (columns_named p e.relation.text) a.column.text) good.text s good.of good.sort in
         pass_first first (second ∷ third ∷ (term_checks seen a.term ++ (last ∷ []))) (not-passes _ (among_at (e.row.text ∷ []) a.row.text 0 (ap (λ (n : Text). Some n) name)))
         (pass_first second (third ∷ (term_checks seen a.term ++ (last ∷ []))) (not-passes _ good.among)
         (pass_first third (term_checks seen a.term ++ (last ∷ [])) fresh

@@ -94,6 +94,9 @@ module _ (p : placed.File) (system : SystemParts) (denotes : FileDenotes (file_o
   IsSortText None s = Unit {0}
   IsSortText (Some text) s = HasNumber names.sorts text s.n
 
+  pub is_sort_text : (o : Option Text) (text : Text) (a : SortId) → o ≡ Some text → HasNumber names.sorts text a.n → IsSortText o a
+  is_sort_text o text a e h = subst (λ (q : Option Text). IsSortText q a) (sym e) h
+
   pub agree-good : (s t : Option Text) (a : SortId) → IsSortText s a → IsSortText t a → (s ≡ None → t ≡ None → ⊥) → agree s t ≡ true
   agree-good None None a h k none = absurd (none refl refl)
   agree-good None (Some t) a h k none = refl
@@ -227,9 +230,6 @@ module _ (p : placed.File) (system : SystemParts) (denotes : FileDenotes (file_o
       plain-good n (base.Cell i j) a named sort = absurd named
       plain-good n (base.Undef s) a named sort = absurd named
 
-      some_text : (o : Option Text) (text : Text) (a : SortId) → o ≡ Some text → HasNumber names.sorts text a.n → IsSortText o a
-      some_text o text a e h = subst (λ (q : Option Text). IsSortText q a) (sym e) h
-
       -- functions around a base
       pub record IsGoodWithin (fs : List Name) (b : placed.Base) (a : SortId) : Type 0 where
         pub functions : Passes (map (used_check (function_texts p.functions)) fs)
@@ -245,7 +245,7 @@ module _ (p : placed.File) (system : SystemParts) (denotes : FileDenotes (file_o
             functions = refl;
             inside = good.passes;
             arguments = refl;
-            sort = some_text (base_sort checked (placed.plain n)) good.text a good.of good.sort;
+            sort = is_sort_text (base_sort checked (placed.plain n)) good.text a good.of good.sort;
             undef_only = λ e. absurd (some_not_none (base_sort checked (placed.plain n)) good.text good.of e);
           }
       within-good [] (placed.cell row column) u a h sort =
@@ -253,7 +253,7 @@ module _ (p : placed.File) (system : SystemParts) (denotes : FileDenotes (file_o
             functions = refl;
             inside = good.passes;
             arguments = refl;
-            sort = some_text (cell_sort checked row column) good.text a good.of good.sort;
+            sort = is_sort_text (cell_sort checked row column) good.text a good.of good.sort;
             undef_only = λ e. absurd (some_not_none (cell_sort checked row column) good.text good.of e);
           }
       within-good (f ∷ fs) b u a h sort =
@@ -268,13 +268,13 @@ module _ (p : placed.File) (system : SystemParts) (denotes : FileDenotes (file_o
           let denotes_it : FunctionDenotes names (function_of z.0) inside.decl =
           one_by_one-at (FunctionDenotes names) (map function_of p.functions) shape.schema.functions h.1.n (function_of z.0) inside.decl denotes.functions (map-at function_of p.functions h.1.n z.0 z.1) inside.is_decl in
           let source_sort : IsSortText (source_of p f) inside.argument =
-          some_text (source_of p f) z.0.source.text inside.argument source (subst (λ (s : SortId). HasNumber names.sorts z.0.source.text s.n) inside.source denotes_it.source) in
+          is_sort_text (source_of p f) z.0.source.text inside.argument source (subst (λ (s : SortId). HasNumber names.sorts z.0.source.text s.n) inside.source denotes_it.source) in
           let last : Check = check f.at WrongSort (not (agree (source_of p f) (sort_within checked fs b))) in record {
             functions = pass_first (used_check (function_texts p.functions) f) (map (used_check (function_texts p.functions)) fs) (not-passes _ (among_at (function_texts p.functions) f.text h.1.n number)) more.functions;
             inside = more.inside;
             arguments = pass_both (argument_checks checked fs b) (last ∷ []) more.arguments
                 (pass_one last (not-passes _ (agree-good (source_of p f) (sort_within checked fs b) inside.argument source_sort more.sort (λ n m. some_not_none (source_of p f) z.0.source.text source n))));
-            sort = some_text (target_of p f) z.0.target.text a target (subst (λ (s : SortId). HasNumber names.sorts z.0.target.text s.n) inside.target_is denotes_it.target);
+            sort = is_sort_text (target_of p f) z.0.target.text a target (subst (λ (s : SortId). HasNumber names.sorts z.0.target.text s.n) inside.target_is denotes_it.target);
             undef_only = λ e. absurd (some_not_none (target_of p f) z.0.target.text target e);
           }
 

@@ -14,3 +14,4 @@ pub mod TermChecks
 pub mod StepChecks
 pub mod FileChecks
 pub mod Faults
+pub mod Canonical

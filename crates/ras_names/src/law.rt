@@ -42,3 +42,10 @@ pub fn tokens_with_a_fault_denote_nothing()
 {
     words_determine_the_file();
 }
+
+/// Tokens have one first fault at most.
+pub fn first_faults_are_one()
+    ensures { (tokens : List Token) (one other : fault.SpecFault) → IsFirstFault tokens one → IsFirstFault tokens other → one ≡ other }
+{
+    words_determine_the_file();
+}

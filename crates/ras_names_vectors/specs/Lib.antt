@@ -11,3 +11,4 @@ pub mod Many
 pub mod Processes
 pub mod Denoted
 pub mod Tokens
+pub mod Canonicals

@@ -3,6 +3,7 @@
 #![tactic(auto)]
 
 mod bulk;
+mod canonical;
 mod counts;
 mod declarations;
 mod denoted;
@@ -16,6 +17,7 @@ mod uses;
 mod widths;
 
 pub use bulk::faults_of_bulk_cases;
+pub use canonical::canonical_texts;
 pub use counts::{counts_at_their_limits, counts_beyond_their_limits, too_many_comes_first};
 pub use declarations::names_declared_twice;
 pub use denoted::{texts_of_systems, texts_without_a_fault};

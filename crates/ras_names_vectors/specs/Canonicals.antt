@@ -1,0 +1,67 @@
+-- Canonical texts.
+use Rattle.std.specs.Prelude.{ℕ, List, ◌++◌, codes}
+use Rattle.ras_names.specs.Canonical.{line}
+
+abbrev pub hiring_canonical : List ℕ
+hiring_canonical =
+    line (codes "system hiring;")
+    ++ (line (codes "sort User;")
+    ++ (line (codes "sort Job;")
+    ++ (line (codes "total owner : Job -> User;")
+    ++ (line (codes "relation apps (job : Job, who : User);")
+    ++ (line (codes "step apply {")
+    ++ (line (codes "  row a : apps;")
+    ++ (line (codes "  param j : Job;")
+    ++ (line (codes "  when a.job = undef and j != undef;")
+    ++ (line (codes "  a.job := j;")
+    ++ (line (codes "  a.who := owner(j);")
+    ++ (line (codes "}")
+    ++ (line (codes "step withdraw {")
+    ++ (line (codes "  row a : apps;")
+    ++ (line (codes "  when a.job != undef;")
+    ++ (line (codes "  a.job := undef;")
+    ++ (line (codes "  a.who := undef;")
+    ++ (line (codes "}")
+    ++ (line (codes "unsafe {")
+    ++ (line (codes "  row a : apps;")
+    ++ (line (codes "  when a.who != owner(a.job);")
+    ++ line (codes "}")))))))))))))))))))))
+
+abbrev pub desk_canonical : List ℕ
+desk_canonical =
+    line (codes "system desk;")
+    ++ (line (codes "sort U;")
+    ++ (line (codes "const on : U;")
+    ++ (line (codes "const off : U;")
+    ++ (line (codes "var m : U = off;")
+    ++ (line (codes "relation seat (s : U);")
+    ++ (line (codes "step take {")
+    ++ (line (codes "  row a : seat;")
+    ++ (line (codes "  when a.s = undef;")
+    ++ (line (codes "  a.s := on;")
+    ++ (line (codes "}")
+    ++ (line (codes "step clear {")
+    ++ (line (codes "  row a : seat;")
+    ++ (line (codes "  when a.s = on;")
+    ++ (line (codes "  m := on;")
+    ++ (line (codes "  each q : seat {")
+    ++ (line (codes "    if q.s = on { q.s := off; }")
+    ++ (line (codes "    if q.s = undef { q.s := on; }")
+    ++ (line (codes "  }")
+    ++ (line (codes "}")
+    ++ (line (codes "unsafe {")
+    ++ (line (codes "  row a : seat;")
+    ++ (line (codes "  row b : seat;")
+    ++ (line (codes "  when a.s = off and b.s = on;")
+    ++ line (codes "}"))))))))))))))))))))))))
+
+abbrev pub nullable_canonical : List ℕ
+nullable_canonical =
+    line (codes "system p;")
+    ++ (line (codes "sort A;")
+    ++ (line (codes "sort B;")
+    ++ (line (codes "nullable n : B -> A;")
+    ++ (line (codes "var x : A;")
+    ++ (line (codes "unsafe {")
+    ++ (line (codes "  when n(undef) != x or true;")
+    ++ line (codes "}")))))))
