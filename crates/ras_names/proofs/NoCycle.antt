@@ -26,7 +26,7 @@ use Rattle.ras_names.proofs.Together.{one_by_one-to}
 use Rattle.ras_names.proofs.ClearNames.{map-at, sorts-numbered}
 use Rattle.ras_names.proofs.Passing.{not_true}
 use Rattle.ras_names.proofs.Among.{text_same, take_at}
-use Rattle.ras_names.proofs.PassTerms.{names}
+use Rattle.ras_names.proofs.PassTerms.{declared_by, names}
 
 either_true : (a b : Bool) → (a || b) ≡ true → (a ≡ true) ⊎ (b ≡ true)
 either_true true b h = inl refl
@@ -53,7 +53,7 @@ module _ (p : placed.File) (system : SystemParts) (denotes : FileDenotes (file_o
   functions = system.shape.schema.functions
 
   abbrev all : Names
-  all = names p system denotes
+  all = names p system.shape (declared_by p system denotes)
 
   one_sort : (name : Text) (a b : SortId) → HasNumber all.sorts name a.n → HasNumber all.sorts name b.n → a ≡ b
   one_sort name a b h k = ap (λ (n : ℕ). record { n = n }) (sorts-numbered all denotes.new_names name a.n b.n h k)

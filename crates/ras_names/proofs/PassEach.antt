@@ -40,7 +40,7 @@ use Rattle.ras_names.proofs.ClearNames.{map-at, all-at, relations-numbered, sort
 use Rattle.ras_names.proofs.Numbered.{at_contains}
 use Rattle.ras_names.proofs.Passing.{Passes, pass_first, pass_one, pass_both, pass_each, pass_each_from, not-passes}
 use Rattle.ras_names.proofs.Among.{among_at, not_among, take_at, map_from, below}
-use Rattle.ras_names.proofs.PassTerms.{bare-sort, some_not_none, names, IsSortText, is_sort_text, agree-good, column-good, IsGoodColumn, here, checked, RowsDenote, ParamsDenote, within-good, term-passes, conjunction-passes}
+use Rattle.ras_names.proofs.PassTerms.{declared_by, bare-sort, some_not_none, names, IsSortText, is_sort_text, agree-good, column-good, IsGoodColumn, here, checked, RowsDenote, ParamsDenote, within-good, term-passes, conjunction-passes}
 use Rattle.ras_names.proofs.PassSteps.{rows_are, params_are, apart_at, relation_known, rows-pass, params-pass, updates-pass, guard-passes}
 
 -- the assignments of a case to the row behind the row parameters
@@ -58,12 +58,12 @@ module _ (p : placed.File) (system : SystemParts) (denotes : FileDenotes (file_o
   behind = relations ++ r ∷ []
 
   abbrev scope : denoted.Scope
-  scope = here p system denotes more params behind sorts
+  scope = here p system.shape (declared_by p system denotes) more params behind sorts
 
   abbrev seen : Scope
-  seen = checked p system denotes more params behind sorts
+  seen = checked p system.shape (declared_by p system denotes) more params behind sorts
 
-  module _ (clear : IsClear scope) (rows_denote : RowsDenote p system denotes more params behind sorts) (params_denote : ParamsDenote p system denotes more params behind sorts) (count : length rows ≡ length relations) (is_relation : HasNumber (relation_names (names p system denotes)) e.relation.text r.n) where
+  module _ (clear : IsClear scope) (rows_denote : RowsDenote p system.shape (declared_by p system denotes) more params behind sorts) (params_denote : ParamsDenote p system.shape (declared_by p system denotes) more params behind sorts) (count : length rows ≡ length relations) (is_relation : HasNumber (relation_names (names p system.shape (declared_by p system denotes))) e.relation.text r.n) where
     -- the row behind the others is that of the `each`
     row_number : HasNumber (declared_texts more) e.row.text (length relations)
     row_number =
@@ -94,10 +94,10 @@ module _ (p : placed.File) (system : SystemParts) (denotes : FileDenotes (file_o
         let t = and_then_through (λ (q : RelId). option_and_then (λ (c : List SortId). slice_get c x.column) (columns_of shape q)) (slice_get behind (length relations)) s sort in
         let q = and_then_through (λ (c : List SortId). slice_get c x.column) (columns_of shape t.mid) s t.second in
         let mid : t.mid ≡ cell.1.0 = one_value behind (length relations) t.mid cell.1.0 t.first cell.1.1 in
-        let good : IsGoodColumn p system denotes e.relation.text a.column.text s =
-        column-good p system denotes e.relation.text cell.1.0 a.column.text x.column q.mid s (subst (λ (z : RelId). HasNumber (relation_names (names p system denotes)) e.relation.text z.n) same is_relation) cell.1.2
+        let good : IsGoodColumn p system.shape (declared_by p system denotes) e.relation.text a.column.text s =
+        column-good p system.shape (declared_by p system denotes) e.relation.text cell.1.0 a.column.text x.column q.mid s (subst (λ (z : RelId). HasNumber (relation_names (names p system.shape (declared_by p system denotes))) e.relation.text z.n) same is_relation) cell.1.2
         (subst (λ (z : RelId). columns_of shape z ≡ Some q.mid) mid q.first) q.second in
-        let term = within-good p system denotes more params behind sorts clear rows_denote params_denote a.term.functions a.term.base x.term s one.1 fits.2 in
+        let term = within-good p system.shape (declared_by p system denotes) more params behind sorts clear rows_denote params_denote a.term.functions a.term.base x.term s one.1 fits.2 in
         let fresh : is_among (map (λ (b : placed.Assignment). b.column.text) (take k assignments)) a.column.text ≡ false =
         not_among (map (λ (b : placed.Assignment). b.column.text) (take k assignments)) a.column.text (λ n i.
         let w = map_from (λ (b : placed.Assignment). b.column.text) (take k assignments) n a.column.text i in
@@ -112,12 +112,12 @@ module _ (p : placed.File) (system : SystemParts) (denotes : FileDenotes (file_o
         let second : Check = used_check (declared_texts (columns_named p e.relation.text)) a.column in
         let third : Check = check a.row.at RepeatedTarget (is_among (map (λ (b : placed.Assignment). b.column.text) (take k assignments)) a.column.text) in
         let last : Check = check a.at WrongSort (not (agree (declared_of (columns_named p e.relation.text) a.column.text) (term_sort seen a.term))) in
-        let column_text : IsSortText p system denotes (declared_of (columns_named p e.relation.text) a.column.text) s = is_sort_text p system denotes (declared_of (columns_named p e.relation.text) a.column.text) good.text s good.of good.sort in
+        let column_text : IsSortText p system.shape (declared_by p system denotes) (declared_of (columns_named p e.relation.text) a.column.text) s = is_sort_text p system.shape (declared_by p system denotes) (declared_of (columns_named p e.relation.text) a.column.text) good.text s good.of good.sort in
         pass_first first (second ∷ third ∷ (term_checks seen a.term ++ (last ∷ []))) (not-passes _ (among_at (e.row.text ∷ []) a.row.text 0 (ap (λ (n : Text). Some n) name)))
         (pass_first second (third ∷ (term_checks seen a.term ++ (last ∷ []))) (not-passes _ good.among)
         (pass_first third (term_checks seen a.term ++ (last ∷ [])) fresh
-        (pass_both (term_checks seen a.term) (last ∷ []) (term-passes p system denotes more params behind sorts clear rows_denote params_denote a.term x.term s one.1 fits.2)
-        (pass_one last (not-passes _ (agree-good p system denotes (declared_of (columns_named p e.relation.text) a.column.text) (term_sort seen a.term) s column_text term.sort (λ n m. some_not_none (declared_of (columns_named p e.relation.text) a.column.text) good.text good.of n)))))))
+        (pass_both (term_checks seen a.term) (last ∷ []) (term-passes p system.shape (declared_by p system denotes) more params behind sorts clear rows_denote params_denote a.term x.term s one.1 fits.2)
+        (pass_one last (not-passes _ (agree-good p system.shape (declared_by p system denotes) (declared_of (columns_named p e.relation.text) a.column.text) (term_sort seen a.term) s column_text term.sort (λ n m. some_not_none (declared_of (columns_named p e.relation.text) a.column.text) good.text good.of n)))))))
 
     -- the n-th case of a step
     pub case-passes : (n : ℕ) (c : placed.Case) (b : Bulk) → n < 8 → length b.condition ≤ 16 → ConjunctionDenotes scope (conjunction_of c.condition) b.condition
@@ -128,18 +128,18 @@ module _ (p : placed.File) (system : SystemParts) (denotes : FileDenotes (file_o
         let h = one_by_one-map (AssignmentDenotes scope (length relations)) assignment_of c.assignments b.assigns assigns in
         pass_first (check c.at TooMany (nat_le 8 n)) (conjunction_checks seen 16 c.condition ++ for_each (assignment_checks seen e c.assignments) c.assignments) (below 8 n 8 lt (omega arith))
         (pass_both (conjunction_checks seen 16 c.condition) (for_each (assignment_checks seen e c.assignments) c.assignments)
-        (conjunction-passes p system denotes more params behind sorts clear rows_denote params_denote 16 c.condition b.condition le condition condition_fits)
+        (conjunction-passes p system.shape (declared_by p system denotes) more params behind sorts clear rows_denote params_denote 16 c.condition b.condition le condition condition_fits)
         (pass_each (assignment_checks seen e c.assignments) c.assignments (λ k a at.
         let x = one_by_one-to Together c.assignments b.assigns k a h at in
         assignment-passes c.assignments b.assigns k a x.0 at x.1 h once (all-at (λ (y : Assign). LiteralFits shape behind sorts (assign_literal (length relations) y)) b.assigns k x.0 assigns_fit x.1))))
 
 module _ (p : placed.File) (system : SystemParts) (denotes : FileDenotes (file_of p) system (names_of (file_of p))) (k : ℕ) (s : placed.Step) (at : slice_get p.steps k ≡ Some s) where
   abbrev all : Names
-  all = names p system denotes
+  all = names p system.shape (declared_by p system denotes)
 
   module _ (t : Transition) (d : StepDenotes all (step_of s) t) (fit : IsTransition system.shape t) (limits : HasTransitionLimits t) (above : List Text) (new : AreNew above (declared_texts s.rows ++ declared_texts s.params) (map (λ (e : placed.Each). e.row.text) s.eachs)) where
     abbrev inside : denoted.Scope
-    inside = here p system denotes s.rows s.params t.rows t.params
+    inside = here p system.shape (declared_by p system denotes) s.rows s.params t.rows t.params
 
     abbrev make : List Text → List RelId → List Text → denoted.Scope
     make rows relations params = record { names = all; rows = rows; relations = relations; params = params }
@@ -156,10 +156,10 @@ module _ (p : placed.File) (system : SystemParts) (denotes : FileDenotes (file_o
     here_clear : IsClear inside
     here_clear = subst IsClear same clear
 
-    rows_denote : RowsDenote p system denotes s.rows s.params t.rows t.params
+    rows_denote : RowsDenote p system.shape (declared_by p system denotes) s.rows s.params t.rows t.params
     rows_denote = one_by_one-map (RowDenotes all) row_of s.rows t.rows d.rows
 
-    params_denote : ParamsDenote p system denotes s.rows s.params t.rows t.params
+    params_denote : ParamsDenote p system.shape (declared_by p system denotes) s.rows s.params t.rows t.params
     params_denote = one_by_one-map (ParamDenotes all) param_of s.params t.params d.params
 
     count : length s.rows ≡ length t.rows
@@ -170,7 +170,7 @@ module _ (p : placed.File) (system : SystemParts) (denotes : FileDenotes (file_o
       own_row = record { name = e.row; of = e.relation }
 
       abbrev within : denoted.Scope
-      within = here p system denotes (s.rows ++ own_row ∷ []) s.params (bulk_rows t b) t.params
+      within = here p system.shape (declared_by p system denotes) (s.rows ++ own_row ∷ []) s.params (bulk_rows t b) t.params
 
       same_within : each_scope all (step_of s) (each_of e) t b ≡ within
       same_within =
@@ -186,7 +186,7 @@ module _ (p : placed.File) (system : SystemParts) (denotes : FileDenotes (file_o
       fits : BulkFits system.shape t b
       fits = all-at (BulkFits system.shape t) t.bulk n b fit.bulk b_at
 
-      the_case_passes : Passes (case_checks (with_row (checked p system denotes s.rows s.params t.rows t.params) e) e n c)
+      the_case_passes : Passes (case_checks (with_row (checked p system.shape (declared_by p system denotes) s.rows s.params t.rows t.params) e) e n c)
       the_case_passes =
           case-passes p system denotes s.rows s.params t.rows t.params e b.relation within_clear
           (one_by_one-more (λ (r : Declared) (m : RelId). HasNumber (relation_names all) r.of.text m.n) s.rows t.rows own_row b.relation rows_denote one.relation) params_denote count one.relation n c b
@@ -223,7 +223,7 @@ module _ (p : placed.File) (system : SystemParts) (denotes : FileDenotes (file_o
     own = above ++ (declared_texts s.rows ++ declared_texts s.params)
 
     abbrev seen_here : Scope
-    seen_here = checked p system denotes s.rows s.params t.rows t.params
+    seen_here = checked p system.shape (declared_by p system denotes) s.rows s.params t.rows t.params
 
     each-passes : (j : ℕ) (e : placed.Each) → slice_get s.eachs j ≡ Some e → Passes (each_checks seen_here own s.eachs j e)
     each-passes j e e_at =

@@ -41,7 +41,7 @@ use Rattle.ras_names.proofs.ClearNames.{map-at, all-at, goal-clear}
 use Rattle.ras_names.proofs.ClearNames as clear
 use Rattle.ras_names.proofs.Passing.{Passes, pass_first, pass_one, pass_both, pass_each, pass_each_from, not-passes}
 use Rattle.ras_names.proofs.Among.{fresh, map-map, map_from, below}
-use Rattle.ras_names.proofs.PassTerms.{names, sorts_are, functions_are, constants_are, vars_are, relations_are, IsSortText, agree-good, some_not_none, IsFound, declared_found, disjunct-passes}
+use Rattle.ras_names.proofs.PassTerms.{declared_by, names, sorts_are, functions_are, constants_are, vars_are, relations_are, IsSortText, agree-good, some_not_none, IsFound, declared_found, disjunct-passes}
 use Rattle.ras_names.proofs.PassSteps.{rows_are, params_are, sort_known, rows-pass}
 use Rattle.ras_names.proofs.PassEach.{inside-passes}
 use Rattle.ras_names.proofs.NoCycle.{no-cycle}
@@ -61,20 +61,20 @@ declared-passes limit n count known name lt le none =
 
 module _ (p : placed.File) (system : SystemParts) (denotes : FileDenotes (file_of p) system (names_of (file_of p))) where
   abbrev all : Names
-  all = names p system denotes
+  all = names p system.shape (declared_by p system denotes)
 
   -- the shared names above the items of each kind
   functions_above : all.sorts ++ all.functions ≡ above_constants p
-  functions_above = both all.sorts (texts p.sorts) all.functions (function_texts p.functions) (sorts_are p system denotes) (functions_are p system denotes)
+  functions_above = both all.sorts (texts p.sorts) all.functions (function_texts p.functions) (sorts_are p system.shape (declared_by p system denotes)) (functions_are p system.shape (declared_by p system denotes))
 
   constants_above : (all.sorts ++ all.functions) ++ all.constants ≡ above_variables p
-  constants_above = both (all.sorts ++ all.functions) (above_constants p) all.constants (declared_texts p.constants) functions_above (constants_are p system denotes)
+  constants_above = both (all.sorts ++ all.functions) (above_constants p) all.constants (declared_texts p.constants) functions_above (constants_are p system.shape (declared_by p system denotes))
 
   variables_above : ((all.sorts ++ all.functions) ++ all.constants) ++ all.vars ≡ above_relations p
-  variables_above = both ((all.sorts ++ all.functions) ++ all.constants) (above_variables p) all.vars (variable_texts p) constants_above (vars_are p system denotes)
+  variables_above = both ((all.sorts ++ all.functions) ++ all.constants) (above_variables p) all.vars (variable_texts p) constants_above (vars_are p system.shape (declared_by p system denotes))
 
   relations_above : declared_names all ≡ above_steps p
-  relations_above = both (((all.sorts ++ all.functions) ++ all.constants) ++ all.vars) (above_relations p) (relation_names all) (relation_texts p) variables_above (relations_are p system denotes)
+  relations_above = both (((all.sorts ++ all.functions) ++ all.constants) ++ all.vars) (above_relations p) (relation_names all) (relation_texts p) variables_above (relations_are p system.shape (declared_by p system denotes))
 
   step_texts : (steps : List placed.Step) → map (λ (s : StepNames). s.name) (map names_of_step (map step_of steps)) ≡ map (λ (s : placed.Step). s.name.text) steps
   step_texts steps = map-map (λ (s : StepNames). s.name) names_of_step (map step_of steps) ∙ map-map (λ (s : grammar.Step). s.name) step_of steps
@@ -98,7 +98,7 @@ module _ (p : placed.File) (system : SystemParts) (denotes : FileDenotes (file_o
       declared-passes 64 k (length p.sorts) (texts (take k p.sorts)) s (slice_get_within p.sorts k s at)
       (let e : system.shape.schema.sorts ≡ length p.sorts = denotes.sorts ∙ length-map p.sorts sort_of in
       let le : system.shape.schema.sorts ≤ 64 = denotes.schema_limits.sorts in omega (arith, e, le))
-      (fresh-made (λ (n : Name). n.text) [] p.sorts k s (subst AreNumbered (sorts_are p system denotes) (clear.sorts-numbered all denotes.new_names)) at))
+      (fresh-made (λ (n : Name). n.text) [] p.sorts k s (subst AreNumbered (sorts_are p system.shape (declared_by p system denotes)) (clear.sorts-numbered all denotes.new_names)) at))
 
   functions-pass : Passes (for_each (function_checks p) p.functions)
   functions-pass =
@@ -129,16 +129,16 @@ module _ (p : placed.File) (system : SystemParts) (denotes : FileDenotes (file_o
   initial-passes k sort s s_at named None o o_at h = refl
   initial-passes k sort s s_at named (Some i) None o_at h = absurd h
   initial-passes k sort s s_at named (Some i) (Some c) o_at h =
-      let number : HasNumber (declared_texts p.constants) i.constant.text c.n = subst (λ (ts : List Text). HasNumber ts i.constant.text c.n) (constants_are p system denotes) h in
+      let number : HasNumber (declared_texts p.constants) i.constant.text c.n = subst (λ (ts : List Text). HasNumber ts i.constant.text c.n) (constants_are p system.shape (declared_by p system denotes)) h in
       let w = map_from (λ (d : Declared). d.name.text) p.constants c.n i.constant.text number in
       let found : IsFound p.constants i.constant.text w.0 =
-      declared_found p.constants c.n w.0 i.constant.text (subst AreNumbered (constants_are p system denotes) (clear.constants-numbered all denotes.new_names)) w.1 w.2 in
+      declared_found p.constants c.n w.0 i.constant.text (subst AreNumbered (constants_are p system.shape (declared_by p system denotes)) (clear.constants-numbered all denotes.new_names)) w.1 w.2 in
       let own : HasNumber all.sorts w.0.of.text s.n =
       one_by_one-at (λ (x : grammar.Constant). IsSortNamed all x.sort) (map constant_of p.constants) system.shape.schema.constants c.n (constant_of w.0) s denotes.constants (map-at constant_of p.constants c.n w.0 w.1) (denotes.is_system.initial_sorts k c s o_at s_at) in
       let used : Check = used_check (declared_texts p.constants) i.constant in
       let last : Check = check i.at WrongSort (not (agree (Some sort.text) (declared_of p.constants i.constant.text))) in
       pass_first used (last ∷ []) (not-passes _ found.among)
-      (pass_one last (not-passes _ (agree-good p system denotes (Some sort.text) (declared_of p.constants i.constant.text) s named (subst (λ (o : Option Text). IsSortText p system denotes o s) (sym found.of) own)
+      (pass_one last (not-passes _ (agree-good p system.shape (declared_by p system denotes) (Some sort.text) (declared_of p.constants i.constant.text) s named (subst (λ (o : Option Text). IsSortText p system.shape (declared_by p system denotes) o s) (sym found.of) own)
       (λ n m. some_not_none (declared_of p.constants i.constant.text) w.0.of.text found.of m))))
 
   variables-pass : Passes (for_each (variable_checks p) p.variables)
@@ -235,7 +235,7 @@ module _ (p : placed.File) (system : SystemParts) (denotes : FileDenotes (file_o
       let lt : position < length system.goals = slice_get_within system.goals position b one.goal_at in
       let le : length system.goals ≤ 64 = denotes.limits.goals in
       let fit = all-at (Fits system.shape) system.goals position b fits one.goal_at in
-      disjunct-passes p system denotes g.rows [] b.rows []
+      disjunct-passes p system.shape (declared_by p system denotes) g.rows [] b.rows []
       (subst (λ (ts : List Text). IsClear (scope ts)) (rows_are g.rows) (goal-clear (file_of p) denotes.new_names k (goal_of g) (map-at goal_of p.goals k g at) b.rows))
       (one_by_one-map (RowDenotes all) row_of g.rows b.rows one.denoted_by.rows) tt position c b.literals (omega (arith, lt, le))
       (all-at HasGoalLimits system.goals position b denotes.limits.each_goal one.goal_at).literals

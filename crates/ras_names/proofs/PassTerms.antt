@@ -24,7 +24,7 @@ use Rattle.ras_names.specs.declared.spec_fault.SpecKind.TheVariants.{WrongSort, 
 use Rattle.ras_names.specs.Lists.{HasNumber, AreDifferent, OneByOne}
 use Rattle.ras_names.specs.FileParts as parts
 use Rattle.ras_names.specs.FileNames.{names_of, names_of_relation}
-use Rattle.ras_names.specs.NewNames.{relation_names}
+use Rattle.ras_names.specs.NewNames.{relation_names, AreNewNames}
 use Rattle.ras_names.specs.Terms as denoted
 use Rattle.ras_names.specs.Terms.{IsColumn, IsCell, IsNamed, TermDenotes, IsUndef, LiteralDenotes, ConjunctionDenotes}
 use Rattle.ras_names.specs.Files.{IsSortNamed, FunctionDenotes, ColumnsDenote, FileDenotes}
@@ -60,12 +60,20 @@ pub bare-sort : (shape : ShapeParts) (rows : List RelId) (params : List SortId) 
 bare-sort shape rows params b s h =
     let t = and_then_through (sort_along shape.schema []) (sort_of_base shape rows params b) s h in t.first ∙ t.second
 
-module _ (p : placed.File) (system : SystemParts) (denotes : FileDenotes (file_of p) system (names_of (file_of p))) where
+-- what a file says before its steps
+pub record IsDeclared (file : grammar.File) (shape : ShapeParts) : Type 0 where
+  pub new_names : AreNewNames (names_of file)
+  pub functions : OneByOne (FunctionDenotes (names_of file)) file.functions shape.schema.functions
+  pub constants : OneByOne (λ (c : grammar.Constant). IsSortNamed (names_of file) c.sort) file.constants shape.schema.constants
+  pub variables : OneByOne (λ (v : grammar.Variable). IsSortNamed (names_of file) v.sort) file.variables shape.vars
+  pub relations : OneByOne (ColumnsDenote (names_of file)) file.relations shape.relations
+
+pub declared_by : (p : placed.File) (system : SystemParts) → FileDenotes (file_of p) system (names_of (file_of p)) → IsDeclared (file_of p) system.shape
+declared_by p system h = record { new_names = h.new_names; functions = h.functions; constants = h.constants; variables = h.variables; relations = h.relations }
+
+module _ (p : placed.File) (shape : ShapeParts) (denotes : IsDeclared (file_of p) shape) where
   abbrev pub names : Names
   names = names_of (file_of p)
-
-  abbrev shape : ShapeParts
-  shape = system.shape
 
   -- the lists of names, as the checks read them
   pub sorts_are : names.sorts ≡ texts p.sorts
