@@ -6,9 +6,11 @@ pub mod ClearNames
 pub mod OneSystem
 pub mod Passing
 pub mod Among
+pub mod NameLists
 pub mod PassTerms
 pub mod PassSteps
 pub mod PassEach
 pub mod NoCycle
 pub mod PassFile
 pub mod OneFile
+pub mod MadeNames

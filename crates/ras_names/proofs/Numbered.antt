@@ -78,7 +78,7 @@ numbered-more xs name h new n i j a b = go (in_either xs (name ∷ []) i n a) (i
     go (inr p) (inr q) = last xs i a (absent p.0 i p.1) ∙ sym (last xs j b (absent q.0 j q.1))
 
 -- where exactly an element of two lists stands
-in_either_at : {X : Type 0} (xs ys : List X) (k : ℕ) (x : X) → slice_get (xs ++ ys) k ≡ Some x
+pub in_either_at : {X : Type 0} (xs ys : List X) (k : ℕ) (x : X) → slice_get (xs ++ ys) k ≡ Some x
     → (slice_get xs k ≡ Some x) ⊎ ((j : ℕ) × (k ≡ length xs + j) × (slice_get ys j ≡ Some x))
 in_either_at [] ys k x e = inr (k, (let same : k ≡ 0 + k = omega arith in same), e)
 in_either_at (z ∷ xs) ys zero x e = inl e

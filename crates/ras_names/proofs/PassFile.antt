@@ -39,15 +39,13 @@ use Rattle.ras_names.proofs.Together.{one_by_one-at, one_by_one-to, one_by_one-m
 use Rattle.ras_names.proofs.OneTerm.{IsClear}
 use Rattle.ras_names.proofs.ClearNames.{map-at, all-at, goal-clear}
 use Rattle.ras_names.proofs.ClearNames as clear
+use Rattle.ras_names.proofs.NameLists.{both, sorts_are, functions_are, constants_are, functions_above, constants_above, variables_above, relations_above, step_texts, steps_above, shared_above}
 use Rattle.ras_names.proofs.Passing.{Passes, pass_first, pass_one, pass_both, pass_each, pass_each_from, not-passes}
 use Rattle.ras_names.proofs.Among.{fresh, map-map, map_from, below}
-use Rattle.ras_names.proofs.PassTerms.{declared_by, names, sorts_are, functions_are, constants_are, vars_are, relations_are, IsSortText, agree-good, some_not_none, IsFound, declared_found, disjunct-passes}
+use Rattle.ras_names.proofs.PassTerms.{declared_by, names, IsSortText, agree-good, some_not_none, IsFound, declared_found, disjunct-passes}
 use Rattle.ras_names.proofs.PassSteps.{rows_are, params_are, sort_known, rows-pass}
 use Rattle.ras_names.proofs.PassEach.{inside-passes}
 use Rattle.ras_names.proofs.NoCycle.{no-cycle}
-
-both : (a b c d : List Text) → a ≡ b → c ≡ d → a ++ c ≡ b ++ d
-both a b c d one other = ap (λ (z : List Text). z ++ c) one ∙ ap (λ (z : List Text). b ++ z) other
 
 -- a name of a list of items is none of those before it
 fresh-made : {X : Type 0} (key : X → Text) (above : List Text) (xs : List X) (k : ℕ) (x : X) → AreNumbered (above ++ map key xs) → slice_get xs k ≡ Some x
@@ -63,42 +61,13 @@ module _ (p : placed.File) (system : SystemParts) (denotes : FileDenotes (file_o
   abbrev all : Names
   all = names p system.shape (declared_by p system denotes)
 
-  -- the shared names above the items of each kind
-  functions_above : all.sorts ++ all.functions ≡ above_constants p
-  functions_above = both all.sorts (texts p.sorts) all.functions (function_texts p.functions) (sorts_are p system.shape (declared_by p system denotes)) (functions_are p system.shape (declared_by p system denotes))
-
-  constants_above : (all.sorts ++ all.functions) ++ all.constants ≡ above_variables p
-  constants_above = both (all.sorts ++ all.functions) (above_constants p) all.constants (declared_texts p.constants) functions_above (constants_are p system.shape (declared_by p system denotes))
-
-  variables_above : ((all.sorts ++ all.functions) ++ all.constants) ++ all.vars ≡ above_relations p
-  variables_above = both ((all.sorts ++ all.functions) ++ all.constants) (above_variables p) all.vars (variable_texts p) constants_above (vars_are p system.shape (declared_by p system denotes))
-
-  relations_above : declared_names all ≡ above_steps p
-  relations_above = both (((all.sorts ++ all.functions) ++ all.constants) ++ all.vars) (above_relations p) (relation_names all) (relation_texts p) variables_above (relations_are p system.shape (declared_by p system denotes))
-
-  step_texts : (steps : List placed.Step) → map (λ (s : StepNames). s.name) (map names_of_step (map step_of steps)) ≡ map (λ (s : placed.Step). s.name.text) steps
-  step_texts steps = map-map (λ (s : StepNames). s.name) names_of_step (map step_of steps) ∙ map-map (λ (s : grammar.Step). s.name) step_of steps
-
-  steps_above : (n : ℕ) → shared_names all (take n all.steps) ≡ checks.above_step p n
-  steps_above n =
-      let taken : take n all.steps ≡ map names_of_step (map step_of (take n p.steps)) =
-      take-map names_of_step n (map step_of p.steps) ∙ ap (map names_of_step) (take-map step_of n p.steps) in
-      both (declared_names all) (above_steps p) (map (λ (s : StepNames). s.name) (take n all.steps)) (map (λ (s : placed.Step). s.name.text) (take n p.steps)) relations_above
-      (ap (map (λ (s : StepNames). s.name)) taken ∙ step_texts (take n p.steps))
-
-  shared_above : shared_names all all.steps ≡ checks.above_step p (length p.steps)
-  shared_above =
-      let whole : take (length p.steps) all.steps ≡ all.steps =
-      take_all (length p.steps) all.steps (let n : length all.steps ≡ length p.steps = length-map (map step_of p.steps) names_of_step ∙ length-map p.steps step_of in omega (arith, n)) in
-      ap (shared_names all) (sym whole) ∙ steps_above (length p.steps)
-
   sorts-pass : Passes (for_each (sort_checks p) p.sorts)
   sorts-pass =
       pass_each (sort_checks p) p.sorts (λ k s at.
       declared-passes 64 k (length p.sorts) (texts (take k p.sorts)) s (slice_get_within p.sorts k s at)
       (let e : system.shape.schema.sorts ≡ length p.sorts = denotes.sorts ∙ length-map p.sorts sort_of in
       let le : system.shape.schema.sorts ≤ 64 = denotes.schema_limits.sorts in omega (arith, e, le))
-      (fresh-made (λ (n : Name). n.text) [] p.sorts k s (subst AreNumbered (sorts_are p system.shape (declared_by p system denotes)) (clear.sorts-numbered all denotes.new_names)) at))
+      (fresh-made (λ (n : Name). n.text) [] p.sorts k s (subst AreNumbered (sorts_are p) (clear.sorts-numbered all denotes.new_names)) at))
 
   functions-pass : Passes (for_each (function_checks p) p.functions)
   functions-pass =
@@ -110,7 +79,7 @@ module _ (p : placed.File) (system : SystemParts) (denotes : FileDenotes (file_o
       let cycle : Check = check f.name.at (Cycle (record { n = k })) (closes_cycle (take k p.functions) f) in
       pass_both (declared_checks 256 k known f.name) (source ∷ target ∷ cycle ∷ [])
       (declared-passes 256 k (length system.shape.schema.functions) known f.name (slice_get_within system.shape.schema.functions k d.0 d.1) denotes.schema_limits.functions
-      (fresh-made (λ (g : placed.Function). g.name.text) (above_functions p) p.functions k f (subst AreNumbered functions_above (clear.functions all denotes.new_names)) at))
+      (fresh-made (λ (g : placed.Function). g.name.text) (above_functions p) p.functions k f (subst AreNumbered (functions_above p) (clear.functions all denotes.new_names)) at))
       (pass_first source (target ∷ cycle ∷ []) (sort_known p system denotes f.source d.0.source d.2.source)
       (pass_first target (cycle ∷ []) (sort_known p system denotes f.target d.0.target d.2.target) (pass_one cycle (no-cycle p system denotes k f at)))))
 
@@ -121,7 +90,7 @@ module _ (p : placed.File) (system : SystemParts) (denotes : FileDenotes (file_o
       let known : List Text = above_constants p ++ declared_texts (take k p.constants) in
       pass_both (declared_checks 256 k known c.name) (used_check (texts p.sorts) c.of ∷ [])
       (declared-passes 256 k (length system.shape.schema.constants) known c.name (slice_get_within system.shape.schema.constants k d.0 d.1) denotes.schema_limits.constants
-      (fresh-made (λ (x : Declared). x.name.text) (above_constants p) p.constants k c (subst AreNumbered constants_above (clear.constants all denotes.new_names)) at))
+      (fresh-made (λ (x : Declared). x.name.text) (above_constants p) p.constants k c (subst AreNumbered (constants_above p) (clear.constants all denotes.new_names)) at))
       (pass_one (used_check (texts p.sorts) c.of) (sort_known p system denotes c.of d.0 d.2)))
 
   initial-passes : (k : ℕ) (sort : Name) (s : SortId) → slice_get system.shape.vars k ≡ Some s → HasNumber all.sorts sort.text s.n → (i : Option placed.Initial) (o : Option ConstId)
@@ -129,10 +98,10 @@ module _ (p : placed.File) (system : SystemParts) (denotes : FileDenotes (file_o
   initial-passes k sort s s_at named None o o_at h = refl
   initial-passes k sort s s_at named (Some i) None o_at h = absurd h
   initial-passes k sort s s_at named (Some i) (Some c) o_at h =
-      let number : HasNumber (declared_texts p.constants) i.constant.text c.n = subst (λ (ts : List Text). HasNumber ts i.constant.text c.n) (constants_are p system.shape (declared_by p system denotes)) h in
+      let number : HasNumber (declared_texts p.constants) i.constant.text c.n = subst (λ (ts : List Text). HasNumber ts i.constant.text c.n) (constants_are p) h in
       let w = map_from (λ (d : Declared). d.name.text) p.constants c.n i.constant.text number in
       let found : IsFound p.constants i.constant.text w.0 =
-      declared_found p.constants c.n w.0 i.constant.text (subst AreNumbered (constants_are p system.shape (declared_by p system denotes)) (clear.constants-numbered all denotes.new_names)) w.1 w.2 in
+      declared_found p.constants c.n w.0 i.constant.text (subst AreNumbered (constants_are p) (clear.constants-numbered all denotes.new_names)) w.1 w.2 in
       let own : HasNumber all.sorts w.0.of.text s.n =
       one_by_one-at (λ (x : grammar.Constant). IsSortNamed all x.sort) (map constant_of p.constants) system.shape.schema.constants c.n (constant_of w.0) s denotes.constants (map-at constant_of p.constants c.n w.0 w.1) (denotes.is_system.initial_sorts k c s o_at s_at) in
       let used : Check = used_check (declared_texts p.constants) i.constant in
@@ -151,7 +120,7 @@ module _ (p : placed.File) (system : SystemParts) (denotes : FileDenotes (file_o
       let sort : Check = used_check (texts p.sorts) v.sort in
       pass_both (declared_checks 64 k known v.name) (sort ∷ initial_checks p v.sort v.initial)
       (declared-passes 64 k (length system.shape.vars) known v.name (slice_get_within system.shape.vars k d.0 d.1) denotes.shape_limits.vars
-      (fresh-made (λ (w : placed.Variable). w.name.text) (above_variables p) p.variables k v (subst AreNumbered variables_above (clear.variables all denotes.new_names)) at))
+      (fresh-made (λ (w : placed.Variable). w.name.text) (above_variables p) p.variables k v (subst AreNumbered (variables_above p) (clear.variables all denotes.new_names)) at))
       (pass_first sort (initial_checks p v.sort v.initial) (sort_known p system denotes v.sort d.0 d.2) (initial-passes k v.sort d.0 d.1 d.2 v.initial i.0 i.1 i.2)))
 
   relations-pass : Passes (for_each (relation_checks p) p.relations)
@@ -166,7 +135,7 @@ module _ (p : placed.File) (system : SystemParts) (denotes : FileDenotes (file_o
       (all-at (λ (q : RelNames). AreDifferent q.columns) all.relations k (names_of_relation (relation_of r)) denotes.new_names.columns (map-at names_of_relation (map relation_of p.relations) k (relation_of r) placed_at))) in
       pass_both (declared_checks 16 k known r.name) (for_each (column_checks p (columns r)) (columns r))
       (declared-passes 16 k (length system.shape.relations) known r.name (slice_get_within system.shape.relations k d.0 d.1) denotes.shape_limits.relations
-      (fresh-made (λ (q : placed.Relation). q.name.text) (above_relations p) p.relations k r (subst AreNumbered relations_above (clear.declared all denotes.new_names)) at))
+      (fresh-made (λ (q : placed.Relation). q.name.text) (above_relations p) p.relations k r (subst AreNumbered (relations_above p) (clear.declared all denotes.new_names)) at))
       (pass_each (column_checks p (columns r)) (columns r) (λ j c c_at.
       let e = one_by_one-to (λ (x : grammar.Column). IsSortNamed all x.sort) (map column_of (columns r)) d.0 j (column_of c) d.2 (map-at column_of (columns r) j c c_at) in
       pass_both (declared_checks 32 j (declared_texts (take j (columns r))) c.name) (used_check (texts p.sorts) c.of ∷ [])
@@ -183,7 +152,7 @@ module _ (p : placed.File) (system : SystemParts) (denotes : FileDenotes (file_o
       let inside : AreNew (checks.above_step p (k + 1)) (declared_texts s.rows ++ declared_texts s.params) (map (λ (e : placed.Each). e.row.text) s.eachs) =
       new_inside k s (denotes.new_names.steps k (names_of_step (step_of s)) (map-at names_of_step (map step_of p.steps) k (step_of s) placed_at)) in
       let texts_are : shared_names all all.steps ≡ above_steps p ++ map (λ (q : placed.Step). q.name.text) p.steps =
-      both (declared_names all) (above_steps p) (map (λ (q : StepNames). q.name) all.steps) (map (λ (q : placed.Step). q.name.text) p.steps) relations_above (step_texts p.steps) in
+      both (declared_names all) (above_steps p) (map (λ (q : StepNames). q.name) all.steps) (map (λ (q : placed.Step). q.name.text) p.steps) (relations_above p) (step_texts p p.steps) in
       pass_both (declared_checks 256 k (checks.above_step p k) s.name) (inside_checks p (checks.above_step p (k + 1)) s)
       (declared-passes 256 k (length system.transitions) (checks.above_step p k) s.name (slice_get_within system.transitions k d.0 d.1) denotes.limits.transitions
       (fresh-made (λ (q : placed.Step). q.name.text) (above_steps p) p.steps k s (subst AreNumbered texts_are (different-numbered (shared_names all all.steps) denotes.new_names.shared)) at))
@@ -198,7 +167,7 @@ module _ (p : placed.File) (system : SystemParts) (denotes : FileDenotes (file_o
           let eachs : (names_of_step (step_of s)).each ≡ map (λ (e : placed.Each). e.row.text) s.eachs = map-map (λ (e : grammar.Each). e.row) each_of s.eachs in
           subst (λ (z : List Text). AreNew (checks.above_step p (k + 1)) (declared_texts s.rows ++ declared_texts s.params) z) eachs
           (subst (λ (z : List Text). AreNew (checks.above_step p (k + 1)) z (names_of_step (step_of s)).each) own
-          (subst (λ (z : List Text). AreNew z ((names_of_step (step_of s)).rows ++ (names_of_step (step_of s)).params) (names_of_step (step_of s)).each) (steps_above (k + 1)) h))
+          (subst (λ (z : List Text). AreNew z ((names_of_step (step_of s)).rows ++ (names_of_step (step_of s)).params) (names_of_step (step_of s)).each) (steps_above p (k + 1)) h))
 
   abbrev pairs_of : grammar.Goal → List (grammar.Goal × grammar.Conjunction)
   pairs_of g = map (λ (c : grammar.Conjunction). (g, c)) (parts.disjuncts g.guard)
@@ -250,7 +219,7 @@ module _ (p : placed.File) (system : SystemParts) (denotes : FileDenotes (file_o
       let shared : AreNew (shared_names all all.steps) (names_of_rows (map row_of g.rows)) [] =
       all-at (λ (q : GoalNames). AreNew (shared_names all all.steps) q.rows []) all.goals k (names_of_goal (goal_of g)) denotes.new_names.goals (map-at names_of_goal (map goal_of p.goals) k (goal_of g) (map-at goal_of p.goals k g at)) in
       let numbered : AreNumbered (above ++ declared_texts g.rows) =
-      subst AreNumbered (both (shared_names all all.steps) above (names_of_rows (map row_of g.rows)) (declared_texts g.rows) shared_above (rows_are g.rows))
+      subst AreNumbered (both (shared_names all all.steps) above (names_of_rows (map row_of g.rows)) (declared_texts g.rows) (shared_above p) (rows_are g.rows))
       (different-numbered (shared_names all all.steps ++ names_of_rows (map row_of g.rows)) shared.own_names) in
       let scope : Scope = record { file = p; rows = g.rows; params = [] } in
       pass_both (for_each (row_checks p above g.rows) g.rows) (guard_checks scope (goal_count (take k p.goals)) g.guard)

@@ -40,9 +40,10 @@ use Rattle.ras_names.proofs.Together.{one_by_one-at, one_by_one-to, one_by_one-m
 use Rattle.ras_names.proofs.OneTerm.{IsClear}
 use Rattle.ras_names.proofs.OneStep.{target-unique}
 use Rattle.ras_names.proofs.ClearNames.{map-at, all-at}
+use Rattle.ras_names.proofs.NameLists.{sorts_are, vars_are, relations_are}
 use Rattle.ras_names.proofs.Passing.{Passes, pass_first, pass_one, pass_both, pass_each, not-passes, not_true}
 use Rattle.ras_names.proofs.Among.{text_same, among_at, take_at, fresh, map-map, map_from, found_at, below}
-use Rattle.ras_names.proofs.PassTerms.{declared_by, bare-sort, some_not_none, names, sorts_are, vars_are, relations_are, IsSortText, agree-good, here, checked, RowsDenote, ParamsDenote, cell-good, within-good, term-passes, disjunct-passes}
+use Rattle.ras_names.proofs.PassTerms.{declared_by, bare-sort, some_not_none, names, IsSortText, agree-good, here, checked, RowsDenote, ParamsDenote, cell-good, within-good, term-passes, disjunct-passes}
 
 pub rows_are : (rows : List Declared) → names_of_rows (map row_of rows) ≡ declared_texts rows
 rows_are rows = map-map (λ (r : grammar.Row). r.name) row_of rows
@@ -74,10 +75,10 @@ module _ (p : placed.File) (system : SystemParts) (denotes : FileDenotes (file_o
   shape = system.shape
 
   pub relation_known : (n : Name) (r : RelId) → HasNumber (relation_names (names p system.shape (declared_by p system denotes))) n.text r.n → (used_check (relation_texts p) n).fails ≡ false
-  relation_known n r h = not-passes _ (among_at (relation_texts p) n.text r.n (subst (λ (ts : List Text). HasNumber ts n.text r.n) (relations_are p system.shape (declared_by p system denotes)) h))
+  relation_known n r h = not-passes _ (among_at (relation_texts p) n.text r.n (subst (λ (ts : List Text). HasNumber ts n.text r.n) (relations_are p) h))
 
   pub sort_known : (n : Name) (s : SortId) → HasNumber (names p system.shape (declared_by p system denotes)).sorts n.text s.n → (used_check (texts p.sorts) n).fails ≡ false
-  sort_known n s h = not-passes _ (among_at (texts p.sorts) n.text s.n (subst (λ (ts : List Text). HasNumber ts n.text s.n) (sorts_are p system.shape (declared_by p system denotes)) h))
+  sort_known n s h = not-passes _ (among_at (texts p.sorts) n.text s.n (subst (λ (ts : List Text). HasNumber ts n.text s.n) (sorts_are p) h))
 
   -- the rows and the data parameters
   pub rows-pass : (above : List Text) (rows : List Declared) (relations : List RelId) → AreNumbered (above ++ declared_texts rows) → length relations ≤ 8
@@ -120,11 +121,11 @@ module _ (p : placed.File) (system : SystemParts) (denotes : FileDenotes (file_o
         → IsGoodTarget name column a
     target-good name None (target.Var v) a h sort =
         let all : Names = names p system.shape (declared_by p system denotes) in
-        let w = map_from (λ (x : placed.Variable). x.name.text) p.variables v.n name.text (subst (λ (ts : List Text). HasNumber ts name.text v.n) (vars_are p system.shape (declared_by p system denotes)) h) in
+        let w = map_from (λ (x : placed.Variable). x.name.text) p.variables v.n name.text (subst (λ (ts : List Text). HasNumber ts name.text v.n) (vars_are p) h) in
         let key : Declared → Text = λ d. d.name.text in
-        let texts_are : declared_texts (map variable_sort p.variables) ≡ all.vars = map-map key variable_sort p.variables ∙ sym (vars_are p system.shape (declared_by p system denotes)) in
+        let texts_are : declared_texts (map variable_sort p.variables) ≡ all.vars = map-map key variable_sort p.variables ∙ sym (vars_are p) in
         let of = found_at key (map variable_sort p.variables) v.n (variable_sort w.0) name.text (subst AreNumbered (sym texts_are) clear.vars) (map-at variable_sort p.variables v.n w.0 w.1) w.2 in record {
-          passes = pass_one (used_check (variable_texts p) name) (not-passes _ (among_at (variable_texts p) name.text v.n (subst (λ (ts : List Text). HasNumber ts name.text v.n) (vars_are p system.shape (declared_by p system denotes)) h)));
+          passes = pass_one (used_check (variable_texts p) name) (not-passes _ (among_at (variable_texts p) name.text v.n (subst (λ (ts : List Text). HasNumber ts name.text v.n) (vars_are p) h)));
           text = w.0.sort.text;
           of = ap (option_map (λ (d : Declared). d.of.text)) of;
           sort = one_by_one-at (λ (x : grammar.Variable) (s : SortId). HasNumber all.sorts x.sort s.n) (map variable_of p.variables) shape.vars v.n (variable_of w.0) a denotes.variables (map-at variable_of p.variables v.n w.0 w.1)

@@ -38,6 +38,7 @@ use Rattle.ras_names.proofs.Numbered.{in_left, in_right, AreNumbered, different-
 use Rattle.ras_names.proofs.Together.{one_by_one-at, one_by_one-to, one_by_one-map}
 use Rattle.ras_names.proofs.OneTerm.{IsClear, image-inside, one_value}
 use Rattle.ras_names.proofs.ClearNames.{relations-numbered, map-at, all-at}
+use Rattle.ras_names.proofs.NameLists.{functions_are, constants_are, vars_are, relations_are, columns_are}
 use Rattle.ras_names.proofs.Passing.{Passes, pass_first, pass_one, pass_both, pass_each, not-passes}
 use Rattle.ras_names.proofs.Among.{same_text, among_at, map-map, map_from, found_at, below}
 
@@ -75,28 +76,6 @@ module _ (p : placed.File) (shape : ShapeParts) (denotes : IsDeclared (file_of p
   abbrev pub names : Names
   names = names_of (file_of p)
 
-  -- the lists of names, as the checks read them
-  pub sorts_are : names.sorts ≡ texts p.sorts
-  sorts_are = map-map (λ (s : grammar.Sort). s.name) (λ (n : Name). record { name = n.text }) p.sorts
-
-  pub functions_are : names.functions ≡ function_texts p.functions
-  functions_are = map-map (λ (f : grammar.Function). f.name) function_of p.functions
-
-  pub constants_are : names.constants ≡ declared_texts p.constants
-  constants_are = map-map (λ (c : grammar.Constant). c.name) constant_of p.constants
-
-  pub vars_are : names.vars ≡ variable_texts p
-  vars_are = map-map (λ (v : grammar.Variable). v.name) variable_of p.variables
-
-  pub relations_are : relation_names names ≡ relation_texts p
-  relations_are = map-map (λ (r : RelNames). r.name) names_of_relation (map relation_of p.relations) ∙ map-map (λ (r : grammar.Relation). r.name) relation_of p.relations
-
-  abbrev columns_texts : placed.Relation → List Text
-  columns_texts r = declared_texts (columns r)
-
-  columns_are : (r : placed.Relation) → (names_of_relation (relation_of r)).columns ≡ columns_texts r
-  columns_are r = map-map (λ (c : grammar.Column). c.name) column_of (columns r)
-
   -- the sort has this name, or none
   abbrev pub IsSortText : Option Text → SortId → Type 0
   IsSortText None s = Unit {0}
@@ -124,16 +103,16 @@ module _ (p : placed.File) (shape : ShapeParts) (denotes : IsDeclared (file_of p
   pub column-good : (relation : Text) (r : RelId) (column : Text) (n : ℕ) (sorts : List SortId) (a : SortId) → HasNumber (relation_names names) relation r.n
       → IsColumn names r column n → columns_of shape r ≡ Some sorts → slice_get sorts n ≡ Some a → IsGoodColumn relation column a
   column-good relation r column n sorts a is_relation is_column found at =
-      let z = map_from (λ (q : placed.Relation). q.name.text) p.relations r.n relation (subst (λ (ts : List Text). HasNumber ts relation r.n) relations_are is_relation) in
+      let z = map_from (λ (q : placed.Relation). q.name.text) p.relations r.n relation (subst (λ (ts : List Text). HasNumber ts relation r.n) (relations_are p) is_relation) in
       let own : slice_get names.relations r.n ≡ Some (names_of_relation (relation_of z.0)) =
       map-at names_of_relation (map relation_of p.relations) r.n (relation_of z.0) (map-at relation_of p.relations r.n z.0 z.1) in
       let same : is_column.0 ≡ names_of_relation (relation_of z.0) = one_value names.relations r.n is_column.0 (names_of_relation (relation_of z.0)) is_column.1 own in
-      let number : HasNumber (columns_texts z.0) column n =
+      let number : HasNumber (declared_texts (columns z.0)) column n =
       subst (λ (ts : List Text). HasNumber ts column n) (columns_are z.0) (subst (λ (q : RelNames). HasNumber q.columns column n) same is_column.2) in
       let y = map_from (λ (d : Declared). d.name.text) (columns z.0) n column number in
-      let numbered : AreNumbered (columns_texts z.0) = subst AreNumbered (columns_are z.0) (columns_numbered r.n (names_of_relation (relation_of z.0)) own) in
+      let numbered : AreNumbered (declared_texts (columns z.0)) = subst AreNumbered (columns_are z.0) (columns_numbered r.n (names_of_relation (relation_of z.0)) own) in
       let is : columns_named p relation ≡ columns z.0 =
-      ap (λ (o : Option placed.Relation). option_map_or columns o []) (found_at (λ (q : placed.Relation). q.name.text) p.relations r.n z.0 relation (subst AreNumbered relations_are (relations-numbered names denotes.new_names)) z.1 z.2) in
+      ap (λ (o : Option placed.Relation). option_map_or columns o []) (found_at (λ (q : placed.Relation). q.name.text) p.relations r.n z.0 relation (subst AreNumbered (relations_are p) (relations-numbered names denotes.new_names)) z.1 z.2) in
       let good : IsFound (columns z.0) column y.0 = declared_found (columns z.0) n y.0 column numbered y.1 y.2 in
       let columns_sorts = one_by_one-at (ColumnsDenote names) (map relation_of p.relations) shape.relations r.n (relation_of z.0) sorts denotes.relations (map-at relation_of p.relations r.n z.0 z.1) found in record {
         among = subst (λ (ds : List Declared). is_among (declared_texts ds) column ≡ true) (sym is) good.among;
@@ -193,9 +172,9 @@ module _ (p : placed.File) (shape : ShapeParts) (denotes : IsDeclared (file_of p
       plain_texts : declared_texts (plain_names checked) ≡ names.constants ++ (names.vars ++ declared_texts params)
       plain_texts =
           let key : Declared → Text = λ d. d.name.text in
-          let vars : declared_texts (map variable_sort p.variables) ≡ names.vars = map-map key variable_sort p.variables ∙ sym vars_are in
+          let vars : declared_texts (map variable_sort p.variables) ≡ names.vars = map-map key variable_sort p.variables ∙ sym (vars_are p) in
           map-append key p.constants (map variable_sort p.variables ++ params)
-          ∙ ap (λ (ts : List Text). ts ++ declared_texts (map variable_sort p.variables ++ params)) (sym constants_are)
+          ∙ ap (λ (ts : List Text). ts ++ declared_texts (map variable_sort p.variables ++ params)) (sym (constants_are p))
           ∙ ap (λ (ts : List Text). names.constants ++ ts) (map-append key (map variable_sort p.variables) params ∙ ap (λ (ts : List Text). ts ++ declared_texts params) vars)
 
       plain_numbered : AreNumbered (declared_texts (plain_names checked))
@@ -222,12 +201,12 @@ module _ (p : placed.File) (shape : ShapeParts) (denotes : IsDeclared (file_of p
 
       plain-good : (n : Name) (b : Base) (a : SortId) → IsNamed here n.text b → sort_of_base shape relations sorts b ≡ Some a → IsGoodPlain n a
       plain-good n (base.Var v) a named sort =
-          let w = map_from (λ (x : placed.Variable). x.name.text) p.variables v.n n.text (subst (λ (ts : List Text). HasNumber ts n.text v.n) vars_are named) in
+          let w = map_from (λ (x : placed.Variable). x.name.text) p.variables v.n n.text (subst (λ (ts : List Text). HasNumber ts n.text v.n) (vars_are p) named) in
           plain_at n (length p.constants + v.n) (variable_sort w.0) a
           (in_right p.constants (map variable_sort p.variables ++ params) v.n (variable_sort w.0) (in_left (map variable_sort p.variables) params v.n (variable_sort w.0) (map-at variable_sort p.variables v.n w.0 w.1))) w.2
           (one_by_one-at (λ (x : grammar.Variable). IsSortNamed names x.sort) (map variable_of p.variables) shape.vars v.n (variable_of w.0) a denotes.variables (map-at variable_of p.variables v.n w.0 w.1) sort)
       plain-good n (base.Constant c) a named sort =
-          let w = map_from (λ (x : Declared). x.name.text) p.constants c.n n.text (subst (λ (ts : List Text). HasNumber ts n.text c.n) constants_are named) in
+          let w = map_from (λ (x : Declared). x.name.text) p.constants c.n n.text (subst (λ (ts : List Text). HasNumber ts n.text c.n) (constants_are p) named) in
           plain_at n c.n w.0 a (in_left p.constants (map variable_sort p.variables ++ params) c.n w.0 w.1) w.2
           (one_by_one-at (λ (x : grammar.Constant). IsSortNamed names x.sort) (map constant_of p.constants) shape.schema.constants c.n (constant_of w.0) a denotes.constants (map-at constant_of p.constants c.n w.0 w.1) sort)
       plain-good n (base.Param q) a named sort =
@@ -267,10 +246,10 @@ module _ (p : placed.File) (shape : ShapeParts) (denotes : IsDeclared (file_of p
       within-good (f ∷ fs) b u a h sort =
           let inside = image-inside shape relations sorts h.0 h.1 a (subst (λ t. has_sort t a) h.4 sort) in
           let more : IsGoodWithin fs b inside.argument = within-good fs b h.0 inside.argument h.2 inside.known in
-          let number : HasNumber (function_texts p.functions) f.text h.1.n = subst (λ (ts : List Text). HasNumber ts f.text h.1.n) functions_are h.3 in
+          let number : HasNumber (function_texts p.functions) f.text h.1.n = subst (λ (ts : List Text). HasNumber ts f.text h.1.n) (functions_are p) h.3 in
           let z = map_from (λ (g : placed.Function). g.name.text) p.functions h.1.n f.text number in
           let found : function_named p f.text ≡ Some z.0 =
-          found_at (λ (g : placed.Function). g.name.text) p.functions h.1.n z.0 f.text (subst AreNumbered functions_are clear.functions) z.1 z.2 in
+          found_at (λ (g : placed.Function). g.name.text) p.functions h.1.n z.0 f.text (subst AreNumbered (functions_are p) clear.functions) z.1 z.2 in
           let source : source_of p f ≡ Some z.0.source.text = ap (option_map (λ (g : placed.Function). g.source.text)) found in
           let target : target_of p f ≡ Some z.0.target.text = ap (option_map (λ (g : placed.Function). g.target.text)) found in
           let denotes_it : FunctionDenotes names (function_of z.0) inside.decl =

@@ -1,5 +1,5 @@
 -- Checks none of which fails.
-use Rattle.std.proofs.Common.{◌≡◌, ℕ, suc, ◌+◌, Bool, true, false, List, [], ◌∷◌, ◌++◌, refl, subst, arith}
+use Rattle.std.proofs.Common.{◌≡◌, ℕ, zero, suc, ◌+◌, Bool, true, false, List, [], ◌∷◌, ◌++◌, refl, subst, arith}
 use Rattle.std.specs.Prelude.{Some, None, slice_get, flat_map, cond, map, not}
 use Rattle.std.specs.List.{enumerate_from}
 use Rattle.ras_names.specs.Checks.{Check, first_of, for_each, for_each_from}
@@ -43,3 +43,35 @@ not-passes false h = absurd (cc)
 pub not_true : (b : Bool) → (b ≡ true → ⊥) → b ≡ false
 not_true true h = absurd (h refl)
 not_true false h = refl
+
+-- the other way round: where none of the checks fails, each passes
+pub passed_first : (c : Check) (checks : List Check) → Passes (c ∷ checks) → (c.fails ≡ false) × Passes checks
+passed_first c checks h = go c.fails refl h
+  where
+    go : (b : Bool) → c.fails ≡ b → cond b (Some c.fault) (first_of checks) ≡ None → (c.fails ≡ false) × Passes checks
+    go true e k = absurd (cc)
+    go false e k = (e, k)
+
+pub passed_both : (xs ys : List Check) → Passes (xs ++ ys) → Passes xs × Passes ys
+passed_both [] ys h = (refl, h)
+passed_both (c ∷ xs) ys h =
+    let p = passed_first c (xs ++ ys) h in
+    let q = passed_both xs ys p.1 in (pass_first c xs p.0 q.0, q.1)
+
+pub passed_each_from : {A : Type 0} (n : ℕ) (checks : ℕ → A → List Check) (xs : List A) → Passes (for_each_from n checks xs) → (k : ℕ) (x : A) → slice_get xs k ≡ Some x
+    → Passes (checks (n + k) x)
+passed_each_from n checks [] h k x e = absurd (cc)
+passed_each_from {A} n checks (y ∷ xs) h zero x e =
+    let same : y ≡ x = cc in
+    let p = passed_both (checks n y) (flat_map (λ (q : ℕ × A). checks q.0 q.1) (enumerate_from (n + 1) xs)) h in
+    subst (λ (z : A). Passes (checks (n + 0) z)) same (subst (λ (m : ℕ). Passes (checks m y)) (let q : n ≡ n + 0 = omega arith in q) p.0)
+passed_each_from {A} n checks (y ∷ xs) h (suc k) x e =
+    let p = passed_both (checks n y) (flat_map (λ (q : ℕ × A). checks q.0 q.1) (enumerate_from (n + 1) xs)) h in
+    subst (λ (m : ℕ). Passes (checks m x)) (let q : n + 1 + k ≡ n + suc k = omega arith in q) (passed_each_from (n + 1) checks xs p.1 k x e)
+
+pub passed_each : {A : Type 0} (checks : ℕ → A → List Check) (xs : List A) → Passes (for_each checks xs) → (k : ℕ) (x : A) → slice_get xs k ≡ Some x → Passes (checks k x)
+passed_each checks xs h k x e = subst (λ (m : ℕ). Passes (checks m x)) (let q : 0 + k ≡ k = omega arith in q) (passed_each_from 0 checks xs h k x e)
+
+pub passed-not : (b : Bool) → not b ≡ false → b ≡ true
+passed-not true h = refl
+passed-not false h = absurd (cc)

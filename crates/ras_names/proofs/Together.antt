@@ -2,7 +2,7 @@
 use Rattle.std.proofs.Common.{◌≡◌, ℕ, zero, suc, ◌+◌, List, [], ◌∷◌, ◌++◌, length, take, refl, sym, ◌∙◌, ap, subst, arith, ⊎_elim}
 use Rattle.std.specs.Prelude.{slice_get, Some, All, map, flat_map}
 use Rattle.std.proofs.lemmas.List.{length-append}
-use Rattle.std.proofs.lemmas.List.Elements.{All-head, All-tail}
+use Rattle.std.proofs.lemmas.List.Elements.{All-head, All-tail, All-nil, All-cons}
 use Rattle.ras_names.specs.Lists.{OneByOne}
 use Rattle.ras_names.proofs.Numbered.{in_left, in_right, in_either}
 
@@ -93,3 +93,40 @@ part_at {X} {Y} {Z} {W} counted part made same (y ∷ ys) (suc j) x i z e h =
     subst (λ (n : ℕ). slice_get (part (made y) ++ flat_map part (map made ys)) n ≡ Some z)
     (let q : length (part (made y)) + (length before + i) ≡ length (counted y ++ before) + i = omega (arith, longer, same y) in q)
     (in_right (part (made y)) (flat_map part (map made ys)) (length before + i) z rest)
+
+-- where for each element there is one that goes together with it, there is a list
+pub one_by_one-made : {A B : Type 0} (R : A → B → Type 0) (xs : List A) → ((k : ℕ) (x : A) → slice_get xs k ≡ Some x → (y : B) × R x y) → (ys : List B) × OneByOne R xs ys
+one_by_one-made R [] f = ([], tt)
+one_by_one-made {A} {B} R (x ∷ xs) f =
+    let y = f 0 x refl in
+    let ys = one_by_one-made R xs (λ k z e. f (suc k) z e) in (y.0 ∷ ys.0, (y.1, ys.1))
+
+-- each of the second list has what its partner gives it
+pub one_by_one-gives : {A B : Type 0} (R : A → B → Type 0) (P : B → Type 0) (xs : List A) (ys : List B) → OneByOne R xs ys → ((k : ℕ) (x : A) (y : B) → slice_get xs k ≡ Some x → R x y → P y) → All P ys
+one_by_one-gives R P [] [] h f = All-nil P
+one_by_one-gives R P [] (y ∷ ys) h f = absurd h
+one_by_one-gives R P (x ∷ xs) [] h f = absurd h
+one_by_one-gives R P (x ∷ xs) (y ∷ ys) h f = All-cons P y ys (f 0 x y refl h.0) (one_by_one-gives R P xs ys h.1 (λ k z w e. f (suc k) z w e))
+
+-- a weaker relation
+pub one_by_one-weaker : {A B : Type 0} (R S : A → B → Type 0) (xs : List A) (ys : List B) → OneByOne R xs ys → ((x : A) (y : B) → R x y → S x y) → OneByOne S xs ys
+one_by_one-weaker R S [] [] h f = tt
+one_by_one-weaker R S [] (y ∷ ys) h f = absurd h
+one_by_one-weaker R S (x ∷ xs) [] h f = absurd h
+one_by_one-weaker R S (x ∷ xs) (y ∷ ys) h f = (f x y h.0, one_by_one-weaker R S xs ys h.1 f)
+
+-- the first list made from another, the other way round
+pub one_by_one-mapped : {A B C : Type 0} (R : A → B → Type 0) (f : C → A) (xs : List C) (ys : List B) → OneByOne (λ x y. R (f x) y) xs ys → OneByOne R (map f xs) ys
+one_by_one-mapped R f [] [] h = tt
+one_by_one-mapped R f [] (y ∷ ys) h = absurd h
+one_by_one-mapped R f (x ∷ xs) [] h = absurd h
+one_by_one-mapped R f (x ∷ xs) (y ∷ ys) h = (h.0, one_by_one-mapped R f xs ys h.1)
+
+-- the element at a number of the second list, with its partner
+pub one_by_one-from : {A B : Type 0} (R : A → B → Type 0) (xs : List A) (ys : List B) (k : ℕ) (y : B) → OneByOne R xs ys → slice_get ys k ≡ Some y
+    → (x : A) × (slice_get xs k ≡ Some x) × R x y
+one_by_one-from R [] [] k y h e = absurd (cc)
+one_by_one-from R [] (z ∷ ys) k y h e = absurd h
+one_by_one-from R (x ∷ xs) [] k y h e = absurd h
+one_by_one-from R (x ∷ xs) (z ∷ ys) zero y h e = let same : z ≡ y = cc in (x, refl, subst (R x) same h.0)
+one_by_one-from R (x ∷ xs) (z ∷ ys) (suc k) y h e = one_by_one-from R xs ys k y h.1 e
