@@ -14,3 +14,4 @@ pub mod NoCycle
 pub mod PassFile
 pub mod OneFile
 pub mod MadeNames
+pub mod MadeTerms

@@ -31,7 +31,7 @@ use Rattle.ras_names.proofs.Numbered.{AreNumbered}
 use Rattle.ras_names.proofs.Together.{one_by_one-unique, one_by_one-all, pair_from}
 use Rattle.ras_names.proofs.OneTerm.{IsClear, cell-unique, term-unique, sort-unique}
 
-is_undef_or_not : (t : grammar.Term) → IsUndef t ⊎ (IsUndef t → ⊥)
+pub is_undef_or_not : (t : grammar.Term) → IsUndef t ⊎ (IsUndef t → ⊥)
 is_undef_or_not (grammar.call name t) = inr (λ h. h)
 is_undef_or_not (grammar.cell row column) = inr (λ h. h)
 is_undef_or_not (grammar.plain name) = inr (λ h. h)

@@ -239,7 +239,7 @@ module _ (p : placed.File) (system : SystemParts) (denotes : FileDenotes (file_o
         let c : Check = check e.relation.at RepeatedTarget (is_among (map (λ (x : placed.Each). x.relation.text) (take j s.eachs)) e.relation.text) in
         let rest : List Check = for_each_from (case_count (take j s.eachs)) (case_checks (with_row seen_here e) e) (cases e) in
         pass_first a (b ∷ c ∷ rest) (not_among own e.row.text (λ n h. absent (at_contains own n e.row.text h)))
-        (pass_first b (c ∷ rest) (relation_known p system denotes e.relation first.bulk.relation first.denoted_by.relation)
+        (pass_first b (c ∷ rest) (relation_known p system.shape (declared_by p system denotes) e.relation first.bulk.relation first.denoted_by.relation)
         (pass_first c rest once
         (pass_each_from (case_count (take j s.eachs)) (case_checks (with_row seen_here e) e) (cases e) (λ i x x_at.
         let one = the_case j e i x e_at x_at in the_case_passes j e e_at (case_count (take j s.eachs) + i) x one.bulk one.bulk_at one.denoted_by))))
@@ -253,12 +253,12 @@ module _ (p : placed.File) (system : SystemParts) (denotes : FileDenotes (file_o
         let guard : List Check = guard_checks seen_here 0 s.guard in
         let updates : List Check = for_each (update_checks seen_here s.updates) s.updates in
         let eachs : List Check = for_each (each_checks seen_here own s.eachs) s.eachs in
-        pass_both rows (params ++ (guard ++ (updates ++ eachs))) (rows-pass p system denotes above s.rows t.rows (left-numbered (above ++ declared_texts s.rows) (declared_texts s.params) numbered) limits.rows rows_denote)
-        (pass_both params (guard ++ (updates ++ eachs)) (params-pass p system denotes (above ++ declared_texts s.rows) s.params t.params numbered limits.params params_denote)
+        pass_both rows (params ++ (guard ++ (updates ++ eachs))) (rows-pass p system.shape (declared_by p system denotes) above s.rows t.rows (left-numbered (above ++ declared_texts s.rows) (declared_texts s.params) numbered) limits.rows rows_denote)
+        (pass_both params (guard ++ (updates ++ eachs)) (params-pass p system.shape (declared_by p system denotes) (above ++ declared_texts s.rows) s.params t.params numbered limits.params params_denote)
         (pass_both guard (updates ++ eachs)
-        (guard-passes p system denotes s.rows s.params t.rows t.params here_clear rows_denote params_denote s.guard t.guard
+        (guard-passes p system.shape (declared_by p system denotes) s.rows s.params t.rows t.params here_clear rows_denote params_denote s.guard t.guard
         (subst (λ (q : denoted.Scope). OneByOne (ConjunctionDenotes q) (map conjunction_of (disjuncts s.guard)) t.guard) same d.guard) limits.guard limits.disjuncts fit.guard)
         (pass_both updates eachs
-        (updates-pass p system denotes s.rows s.params t.rows t.params here_clear rows_denote params_denote s.updates t.updates
+        (updates-pass p system.shape (declared_by p system denotes) s.rows s.params t.rows t.params here_clear rows_denote params_denote s.updates t.updates
         (subst (λ (q : denoted.Scope). OneByOne (UpdateDenotes q) (map update_of s.updates) t.updates) same d.updates) fit.once fit.updates)
         (pass_each (each_checks seen_here own s.eachs) s.eachs each-passes))))

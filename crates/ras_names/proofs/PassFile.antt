@@ -80,8 +80,8 @@ module _ (p : placed.File) (system : SystemParts) (denotes : FileDenotes (file_o
       pass_both (declared_checks 256 k known f.name) (source ∷ target ∷ cycle ∷ [])
       (declared-passes 256 k (length system.shape.schema.functions) known f.name (slice_get_within system.shape.schema.functions k d.0 d.1) denotes.schema_limits.functions
       (fresh-made (λ (g : placed.Function). g.name.text) (above_functions p) p.functions k f (subst AreNumbered (functions_above p) (clear.functions all denotes.new_names)) at))
-      (pass_first source (target ∷ cycle ∷ []) (sort_known p system denotes f.source d.0.source d.2.source)
-      (pass_first target (cycle ∷ []) (sort_known p system denotes f.target d.0.target d.2.target) (pass_one cycle (no-cycle p system denotes k f at)))))
+      (pass_first source (target ∷ cycle ∷ []) (sort_known p system.shape (declared_by p system denotes) f.source d.0.source d.2.source)
+      (pass_first target (cycle ∷ []) (sort_known p system.shape (declared_by p system denotes) f.target d.0.target d.2.target) (pass_one cycle (no-cycle p system denotes k f at)))))
 
   constants-pass : Passes (for_each (constant_checks p) p.constants)
   constants-pass =
@@ -91,7 +91,7 @@ module _ (p : placed.File) (system : SystemParts) (denotes : FileDenotes (file_o
       pass_both (declared_checks 256 k known c.name) (used_check (texts p.sorts) c.of ∷ [])
       (declared-passes 256 k (length system.shape.schema.constants) known c.name (slice_get_within system.shape.schema.constants k d.0 d.1) denotes.schema_limits.constants
       (fresh-made (λ (x : Declared). x.name.text) (above_constants p) p.constants k c (subst AreNumbered (constants_above p) (clear.constants all denotes.new_names)) at))
-      (pass_one (used_check (texts p.sorts) c.of) (sort_known p system denotes c.of d.0 d.2)))
+      (pass_one (used_check (texts p.sorts) c.of) (sort_known p system.shape (declared_by p system denotes) c.of d.0 d.2)))
 
   initial-passes : (k : ℕ) (sort : Name) (s : SortId) → slice_get system.shape.vars k ≡ Some s → HasNumber all.sorts sort.text s.n → (i : Option placed.Initial) (o : Option ConstId)
       → slice_get system.initial k ≡ Some o → InitialDenotes all (option_map (λ (x : placed.Initial). x.constant.text) i) o → Passes (initial_checks p sort i)
@@ -121,7 +121,7 @@ module _ (p : placed.File) (system : SystemParts) (denotes : FileDenotes (file_o
       pass_both (declared_checks 64 k known v.name) (sort ∷ initial_checks p v.sort v.initial)
       (declared-passes 64 k (length system.shape.vars) known v.name (slice_get_within system.shape.vars k d.0 d.1) denotes.shape_limits.vars
       (fresh-made (λ (w : placed.Variable). w.name.text) (above_variables p) p.variables k v (subst AreNumbered (variables_above p) (clear.variables all denotes.new_names)) at))
-      (pass_first sort (initial_checks p v.sort v.initial) (sort_known p system denotes v.sort d.0 d.2) (initial-passes k v.sort d.0 d.1 d.2 v.initial i.0 i.1 i.2)))
+      (pass_first sort (initial_checks p v.sort v.initial) (sort_known p system.shape (declared_by p system denotes) v.sort d.0 d.2) (initial-passes k v.sort d.0 d.1 d.2 v.initial i.0 i.1 i.2)))
 
   relations-pass : Passes (for_each (relation_checks p) p.relations)
   relations-pass =
@@ -142,7 +142,7 @@ module _ (p : placed.File) (system : SystemParts) (denotes : FileDenotes (file_o
       (declared-passes 32 j (length d.0) (declared_texts (take j (columns r))) c.name (slice_get_within d.0 j e.0 e.1)
       (all-at (λ (sorts : List SortId). length sorts ≤ 32) system.shape.relations k d.0 denotes.shape_limits.columns d.1)
       (fresh-made (λ (x : Declared). x.name.text) [] (columns r) j c numbered c_at))
-      (pass_one (used_check (texts p.sorts) c.of) (sort_known p system denotes c.of e.0 e.2)))))
+      (pass_one (used_check (texts p.sorts) c.of) (sort_known p system.shape (declared_by p system denotes) c.of e.0 e.2)))))
 
   steps-pass : Passes (for_each (step_checks p) p.steps)
   steps-pass =
@@ -223,7 +223,7 @@ module _ (p : placed.File) (system : SystemParts) (denotes : FileDenotes (file_o
       (different-numbered (shared_names all all.steps ++ names_of_rows (map row_of g.rows)) shared.own_names) in
       let scope : Scope = record { file = p; rows = g.rows; params = [] } in
       pass_both (for_each (row_checks p above g.rows) g.rows) (guard_checks scope (goal_count (take k p.goals)) g.guard)
-      (rows-pass p system denotes above g.rows first.goal.rows numbered (all-at HasGoalLimits system.goals (goal_count (take k p.goals) + 0) first.goal denotes.limits.each_goal first.goal_at).rows
+      (rows-pass p system.shape (declared_by p system denotes) above g.rows first.goal.rows numbered (all-at HasGoalLimits system.goals (goal_count (take k p.goals) + 0) first.goal denotes.limits.each_goal first.goal_at).rows
       (one_by_one-map (RowDenotes all) row_of g.rows first.goal.rows first.denoted_by.rows))
       (pass_each_from (goal_count (take k p.goals)) (disjunct_checks scope) (disjuncts g.guard) (λ i c c_at. disjunct-of-goal k g i c at c_at)))
 

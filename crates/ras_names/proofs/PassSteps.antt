@@ -43,7 +43,7 @@ use Rattle.ras_names.proofs.ClearNames.{map-at, all-at}
 use Rattle.ras_names.proofs.NameLists.{sorts_are, vars_are, relations_are}
 use Rattle.ras_names.proofs.Passing.{Passes, pass_first, pass_one, pass_both, pass_each, not-passes, not_true}
 use Rattle.ras_names.proofs.Among.{text_same, among_at, take_at, fresh, map-map, map_from, found_at, below}
-use Rattle.ras_names.proofs.PassTerms.{declared_by, bare-sort, some_not_none, names, IsSortText, agree-good, here, checked, RowsDenote, ParamsDenote, cell-good, within-good, term-passes, disjunct-passes}
+use Rattle.ras_names.proofs.PassTerms.{IsDeclared, bare-sort, some_not_none, names, IsSortText, agree-good, here, checked, RowsDenote, ParamsDenote, cell-good, within-good, term-passes, disjunct-passes}
 
 pub rows_are : (rows : List Declared) → names_of_rows (map row_of rows) ≡ declared_texts rows
 rows_are rows = map-map (λ (r : grammar.Row). r.name) row_of rows
@@ -70,57 +70,54 @@ same_columns None (Some c) h = absurd (cc)
 same_columns (Some b) None h = absurd (cc)
 same_columns (Some b) (Some c) h = ap (λ (t : Text). Some t) (text_same b.text c.text h)
 
-module _ (p : placed.File) (system : SystemParts) (denotes : FileDenotes (file_of p) system (names_of (file_of p))) where
-  abbrev shape : ShapeParts
-  shape = system.shape
-
-  pub relation_known : (n : Name) (r : RelId) → HasNumber (relation_names (names p system.shape (declared_by p system denotes))) n.text r.n → (used_check (relation_texts p) n).fails ≡ false
+module _ (p : placed.File) (shape : ShapeParts) (denotes : IsDeclared (file_of p) shape) where
+  pub relation_known : (n : Name) (r : RelId) → HasNumber (relation_names (names p shape denotes)) n.text r.n → (used_check (relation_texts p) n).fails ≡ false
   relation_known n r h = not-passes _ (among_at (relation_texts p) n.text r.n (subst (λ (ts : List Text). HasNumber ts n.text r.n) (relations_are p) h))
 
-  pub sort_known : (n : Name) (s : SortId) → HasNumber (names p system.shape (declared_by p system denotes)).sorts n.text s.n → (used_check (texts p.sorts) n).fails ≡ false
+  pub sort_known : (n : Name) (s : SortId) → HasNumber (names p shape denotes).sorts n.text s.n → (used_check (texts p.sorts) n).fails ≡ false
   sort_known n s h = not-passes _ (among_at (texts p.sorts) n.text s.n (subst (λ (ts : List Text). HasNumber ts n.text s.n) (sorts_are p) h))
 
   -- the rows and the data parameters
   pub rows-pass : (above : List Text) (rows : List Declared) (relations : List RelId) → AreNumbered (above ++ declared_texts rows) → length relations ≤ 8
-      → RowsDenote p system.shape (declared_by p system denotes) rows [] relations [] → Passes (for_each (row_checks p above rows) rows)
+      → RowsDenote p shape denotes rows [] relations [] → Passes (for_each (row_checks p above rows) rows)
   rows-pass above rows relations numbered le h =
       pass_each (row_checks p above rows) rows (λ k r e.
-      let to = one_by_one-to (λ (d : Declared) (n : RelId). HasNumber (relation_names (names p system.shape (declared_by p system denotes))) d.of.text n.n) rows relations k r h e in
+      let to = one_by_one-to (λ (d : Declared) (n : RelId). HasNumber (relation_names (names p shape denotes)) d.of.text n.n) rows relations k r h e in
       pass_first (check r.name.at TooMany (nat_le 8 k)) (new_check (above ++ declared_texts (take k rows)) r.name ∷ used_check (relation_texts p) r.of ∷ [])
       (below 8 k (length relations) (slice_get_within relations k to.0 to.1) le)
       (pass_first (new_check (above ++ declared_texts (take k rows)) r.name) (used_check (relation_texts p) r.of ∷ []) (declared-fresh above rows k r numbered e)
       (pass_one (used_check (relation_texts p) r.of) (relation_known r.of to.0 to.2))))
 
   pub params-pass : (above : List Text) (params : List Declared) (sorts : List SortId) → AreNumbered (above ++ declared_texts params) → length sorts ≤ 16
-      → ParamsDenote p system.shape (declared_by p system denotes) [] params [] sorts → Passes (for_each (param_checks p above params) params)
+      → ParamsDenote p shape denotes [] params [] sorts → Passes (for_each (param_checks p above params) params)
   params-pass above params sorts numbered le h =
       pass_each (param_checks p above params) params (λ k q e.
-      let to = one_by_one-to (λ (d : Declared) (s : SortId). HasNumber (names p system.shape (declared_by p system denotes)).sorts d.of.text s.n) params sorts k q h e in
+      let to = one_by_one-to (λ (d : Declared) (s : SortId). HasNumber (names p shape denotes).sorts d.of.text s.n) params sorts k q h e in
       pass_first (check q.name.at TooMany (nat_le 16 k)) (new_check (above ++ declared_texts (take k params)) q.name ∷ used_check (texts p.sorts) q.of ∷ [])
       (below 16 k (length sorts) (slice_get_within sorts k to.0 to.1) le)
       (pass_first (new_check (above ++ declared_texts (take k params)) q.name) (used_check (texts p.sorts) q.of ∷ []) (declared-fresh above params k q numbered e)
       (pass_one (used_check (texts p.sorts) q.of) (sort_known q.of to.0 to.2))))
 
-  module _ (rows params : List Declared) (relations : List RelId) (sorts : List SortId) (clear : IsClear (here p system.shape (declared_by p system denotes) rows params relations sorts)) (rows_denote : RowsDenote p system.shape (declared_by p system denotes) rows params relations sorts) (params_denote : ParamsDenote p system.shape (declared_by p system denotes) rows params relations sorts) where
+  module _ (rows params : List Declared) (relations : List RelId) (sorts : List SortId) (clear : IsClear (here p shape denotes rows params relations sorts)) (rows_denote : RowsDenote p shape denotes rows params relations sorts) (params_denote : ParamsDenote p shape denotes rows params relations sorts) where
     abbrev scope : denoted.Scope
-    scope = here p system.shape (declared_by p system denotes) rows params relations sorts
+    scope = here p shape denotes rows params relations sorts
 
     abbrev seen : Scope
-    seen = checked p system.shape (declared_by p system denotes) rows params relations sorts
+    seen = checked p shape denotes rows params relations sorts
 
     abbrev text_of : Option Name → Option Text
     text_of c = option_map (λ (n : Name). n.text) c
 
-    record IsGoodTarget (name : Name) (column : Option Name) (a : SortId) : Type 0 where
-      passes : Passes (target_checks seen name column)
-      text : Text
-      of : target_sort seen name column ≡ Some text
-      sort : HasNumber (names p system.shape (declared_by p system denotes)).sorts text a.n
+    pub record IsGoodTarget (name : Name) (column : Option Name) (a : SortId) : Type 0 where
+      pub passes : Passes (target_checks seen name column)
+      pub text : Text
+      pub of : target_sort seen name column ≡ Some text
+      pub sort : HasNumber (names p shape denotes).sorts text a.n
 
-    target-good : (name : Name) (column : Option Name) (t : Target) (a : SortId) → TargetDenotes scope name.text (text_of column) t → sort_of shape relations sorts (target_term t) ≡ Some a
+    pub target-good : (name : Name) (column : Option Name) (t : Target) (a : SortId) → TargetDenotes scope name.text (text_of column) t → sort_of shape relations sorts (target_term t) ≡ Some a
         → IsGoodTarget name column a
     target-good name None (target.Var v) a h sort =
-        let all : Names = names p system.shape (declared_by p system denotes) in
+        let all : Names = names p shape denotes in
         let w = map_from (λ (x : placed.Variable). x.name.text) p.variables v.n name.text (subst (λ (ts : List Text). HasNumber ts name.text v.n) (vars_are p) h) in
         let key : Declared → Text = λ d. d.name.text in
         let texts_are : declared_texts (map variable_sort p.variables) ≡ all.vars = map-map key variable_sort p.variables ∙ sym (vars_are p) in
@@ -134,7 +131,7 @@ module _ (p : placed.File) (system : SystemParts) (denotes : FileDenotes (file_o
     target-good name None (target.Cell m n) a h sort = absurd h
     target-good name (Some c) (target.Var v) a h sort = absurd h
     target-good name (Some c) (target.Cell m n) a h sort =
-        let good = cell-good p system.shape (declared_by p system denotes) rows params relations sorts clear rows_denote params_denote name c m n a h (bare-sort shape relations sorts (base.Cell m n) a sort) in
+        let good = cell-good p shape denotes rows params relations sorts clear rows_denote params_denote name c m n a h (bare-sort shape relations sorts (base.Cell m n) a sort) in
         record { passes = good.passes; text = good.text; of = good.of; sort = good.sort }
 
     -- an update, and that its target is no earlier one
@@ -145,7 +142,7 @@ module _ (p : placed.File) (system : SystemParts) (denotes : FileDenotes (file_o
         let together : placed.Update → Update → Type 0 = λ g y. UpdateDenotes scope (update_of g) y in
         let one : UpdateDenotes scope (update_of u) x = one_by_one-at together updates xs k u x h at x_at in
         let good : IsGoodTarget u.name u.column fits.0 = target-good u.name u.column x.target fits.0 one.0 fits.1 in
-        let term = within-good p system.shape (declared_by p system denotes) rows params relations sorts clear rows_denote params_denote u.term.functions u.term.base x.term fits.0 one.1 fits.2 in
+        let term = within-good p shape denotes rows params relations sorts clear rows_denote params_denote u.term.functions u.term.base x.term fits.0 one.1 fits.2 in
         let repeated : list_any (is_same_target u) (take k updates) ≡ true → ⊥ = λ r.
         let any = Any-from_list_any (is_same_target u) (take k updates) r in
         let w : placed.Update = any.1 in
@@ -159,12 +156,12 @@ module _ (p : placed.File) (system : SystemParts) (denotes : FileDenotes (file_o
         apart_at (λ (a b : Update). a.target ≢ b.target) xs any.0 k y.0 x once w_at.1 y.1 x_at (target-unique scope clear shape sorts u.name.text (text_of u.column) y.0.target x.target y_target one.0) in
         let last : Check = check u.at WrongSort (not (agree (target_sort seen u.name u.column) (term_sort seen u.term))) in
         let second : Check = check u.name.at RepeatedTarget (list_any (is_same_target u) (take k updates)) in
-        let target_text : IsSortText p system.shape (declared_by p system denotes) (target_sort seen u.name u.column) fits.0 =
-        subst (λ (o : Option Text). IsSortText p system.shape (declared_by p system denotes) o fits.0) (sym good.of) good.sort in
+        let target_text : IsSortText p shape denotes (target_sort seen u.name u.column) fits.0 =
+        subst (λ (o : Option Text). IsSortText p shape denotes o fits.0) (sym good.of) good.sort in
         pass_both (target_checks seen u.name u.column) (second ∷ (term_checks seen u.term ++ (last ∷ []))) good.passes
         (pass_first second (term_checks seen u.term ++ (last ∷ [])) (not_true _ repeated)
-        (pass_both (term_checks seen u.term) (last ∷ []) (term-passes p system.shape (declared_by p system denotes) rows params relations sorts clear rows_denote params_denote u.term x.term fits.0 one.1 fits.2)
-        (pass_one last (not-passes _ (agree-good p system.shape (declared_by p system denotes) (target_sort seen u.name u.column) (term_sort seen u.term) fits.0 target_text term.sort (λ n m. some_not_none (target_sort seen u.name u.column) good.text good.of n))))))
+        (pass_both (term_checks seen u.term) (last ∷ []) (term-passes p shape denotes rows params relations sorts clear rows_denote params_denote u.term x.term fits.0 one.1 fits.2)
+        (pass_one last (not-passes _ (agree-good p shape denotes (target_sort seen u.name u.column) (term_sort seen u.term) fits.0 target_text term.sort (λ n m. some_not_none (target_sort seen u.name u.column) good.text good.of n))))))
 
     pub updates-pass : (updates : List placed.Update) (xs : List Update) → OneByOne (UpdateDenotes scope) (map update_of updates) xs → AllPairs (λ (y e : Update). y.target ≢ e.target) xs
         → All (UpdateFits shape relations sorts) xs → Passes (for_each (update_checks seen updates) updates)
@@ -180,6 +177,6 @@ module _ (p : placed.File) (system : SystemParts) (denotes : FileDenotes (file_o
         let h' = one_by_one-map (ConjunctionDenotes scope) conjunction_of (disjuncts g) xs h in
         pass_each (disjunct_checks seen) (disjuncts g) (λ k c e.
         let x = one_by_one-to (λ (d : placed.Conjunction) (ls : List Literal). ConjunctionDenotes scope (conjunction_of d) ls) (disjuncts g) xs k c h' e in
-        disjunct-passes p system.shape (declared_by p system denotes) rows params relations sorts clear rows_denote params_denote k c x.0
+        disjunct-passes p shape denotes rows params relations sorts clear rows_denote params_denote k c x.0
         (let lt : k < length xs = slice_get_within xs k x.0 x.1 in omega (arith, lt, le))
         (all-at (λ (ls : List Literal). length ls ≤ 128) xs k x.0 wide x.1) x.2 (all-at (All (LiteralFits shape relations sorts)) xs k x.0 fits x.1))

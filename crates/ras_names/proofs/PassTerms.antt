@@ -169,7 +169,7 @@ module _ (p : placed.File) (shape : ShapeParts) (denotes : IsDeclared (file_of p
           }
 
       -- names alone
-      plain_texts : declared_texts (plain_names checked) ≡ names.constants ++ (names.vars ++ declared_texts params)
+      pub plain_texts : declared_texts (plain_names checked) ≡ names.constants ++ (names.vars ++ declared_texts params)
       plain_texts =
           let key : Declared → Text = λ d. d.name.text in
           let vars : declared_texts (map variable_sort p.variables) ≡ names.vars = map-map key variable_sort p.variables ∙ sym (vars_are p) in
@@ -184,11 +184,11 @@ module _ (p : placed.File) (shape : ShapeParts) (denotes : IsDeclared (file_of p
           (numbered-append names.vars (declared_texts params) clear.vars clear.params clear.vars_params)
           (apart-append names.constants names.vars (declared_texts params) clear.constants_vars clear.constants_params))
 
-      record IsGoodPlain (n : Name) (a : SortId) : Type 0 where
-        passes : Passes (base_checks checked (placed.plain n))
-        text : Text
-        of : base_sort checked (placed.plain n) ≡ Some text
-        sort : HasNumber names.sorts text a.n
+      pub record IsGoodPlain (n : Name) (a : SortId) : Type 0 where
+        pub passes : Passes (base_checks checked (placed.plain n))
+        pub text : Text
+        pub of : base_sort checked (placed.plain n) ≡ Some text
+        pub sort : HasNumber names.sorts text a.n
 
       plain_at : (n : Name) (k : ℕ) (d : Declared) (a : SortId) → slice_get (plain_names checked) k ≡ Some d → d.name.text ≡ n.text → HasNumber names.sorts d.of.text a.n → IsGoodPlain n a
       plain_at n k d a at e sort =
@@ -199,7 +199,7 @@ module _ (p : placed.File) (shape : ShapeParts) (denotes : IsDeclared (file_of p
             sort = sort;
           }
 
-      plain-good : (n : Name) (b : Base) (a : SortId) → IsNamed here n.text b → sort_of_base shape relations sorts b ≡ Some a → IsGoodPlain n a
+      pub plain-good : (n : Name) (b : Base) (a : SortId) → IsNamed here n.text b → sort_of_base shape relations sorts b ≡ Some a → IsGoodPlain n a
       plain-good n (base.Var v) a named sort =
           let w = map_from (λ (x : placed.Variable). x.name.text) p.variables v.n n.text (subst (λ (ts : List Text). HasNumber ts n.text v.n) (vars_are p) named) in
           plain_at n (length p.constants + v.n) (variable_sort w.0) a
