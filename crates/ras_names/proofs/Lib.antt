@@ -15,3 +15,4 @@ pub mod PassFile
 pub mod OneFile
 pub mod MadeNames
 pub mod MadeTerms
+pub mod MadeSteps

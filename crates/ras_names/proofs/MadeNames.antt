@@ -35,13 +35,13 @@ numbered-different names h i j d lt l e =
     let other : slice_get names j ≡ Some (get_or names j d) = slice_get-get_or names j d l in
     let same : i ≡ j = h (get_or names j d) i j (one ∙ ap (λ (t : Text). Some t) e) other in absurd (omega (arith, lt, same))
 
-at_take : {X : Type 0} (n : ℕ) (xs : List X) (k : ℕ) (x : X) → k < n → slice_get xs k ≡ Some x → slice_get (take n xs) k ≡ Some x
+pub at_take : {X : Type 0} (n : ℕ) (xs : List X) (k : ℕ) (x : X) → k < n → slice_get xs k ≡ Some x → slice_get (take n xs) k ≡ Some x
 at_take zero xs k x lt e = absurd (omega (arith, lt))
 at_take (suc n) [] k x lt e = absurd (cc)
 at_take (suc n) (y ∷ xs) zero x lt e = e
 at_take (suc n) (y ∷ xs) (suc k) x lt e = at_take n xs k x (omega (arith, lt)) e
 
-no_true : (b : Bool) → b ≡ true → b ≡ false → ⊥
+pub no_true : (b : Bool) → b ≡ true → b ≡ false → ⊥
 no_true b h k = let e : ◌≡◌ {A = Bool} true false = sym h ∙ k in cc
 
 -- names one by one new below others

@@ -1,10 +1,10 @@
 -- Lists that go together one by one.
-use Rattle.std.proofs.Common.{◌≡◌, ℕ, zero, suc, ◌+◌, List, [], ◌∷◌, ◌++◌, length, take, refl, sym, ◌∙◌, ap, subst, arith, ⊎_elim}
+use Rattle.std.proofs.Common.{◌≡◌, ℕ, zero, suc, ◌+◌, ◌<◌, ◌≤◌, List, [], ◌∷◌, ◌++◌, length, take, refl, sym, ◌∙◌, ap, subst, arith, ⊎_elim}
 use Rattle.std.specs.Prelude.{slice_get, Some, All, map, flat_map}
 use Rattle.std.proofs.lemmas.List.{length-append}
 use Rattle.std.proofs.lemmas.List.Elements.{All-head, All-tail, All-nil, All-cons}
 use Rattle.ras_names.specs.Lists.{OneByOne}
-use Rattle.ras_names.proofs.Numbered.{in_left, in_right, in_either}
+use Rattle.ras_names.proofs.Numbered.{in_left, in_right, in_either, in_either_at}
 
 module _ {A B : Type 0} (R S : A → B → Type 0) where
   -- where each element goes together with one at most, so does the list
@@ -130,3 +130,44 @@ one_by_one-from R [] (z ∷ ys) k y h e = absurd h
 one_by_one-from R (x ∷ xs) [] k y h e = absurd h
 one_by_one-from R (x ∷ xs) (z ∷ ys) zero y h e = let same : z ≡ y = cc in (x, refl, subst (R x) same h.0)
 one_by_one-from R (x ∷ xs) (z ∷ ys) (suc k) y h e = one_by_one-from R xs ys k y h.1 e
+
+-- which part of which element stands at a place, where all parts stand in one list; other parts, as many, are counted
+pub record IsPart {X Y Z W : Type 0} (counted : X → List Y) (part : W → List Z) (made : X → W) (xs : List X) (k : ℕ) (z : Z) : Type 0 where
+  pub place : ℕ
+  pub element : X
+  pub at : slice_get xs place ≡ Some element
+  pub number : ℕ
+  pub within : slice_get (part (made element)) number ≡ Some z
+  pub position : k ≡ length (flat_map counted (take place xs)) + number
+
+pub part_from : {X Y Z W : Type 0} (counted : X → List Y) (part : W → List Z) (made : X → W) → ((x : X) → length (counted x) ≡ length (part (made x)))
+    → (xs : List X) (k : ℕ) (z : Z) → slice_get (flat_map part (map made xs)) k ≡ Some z → IsPart counted part made xs k z
+part_from counted part made same [] k z e = absurd (cc)
+part_from {X} {Y} {Z} {W} counted part made same (y ∷ ys) k z e =
+    ⊎_elim (λ here. record { place = 0; element = y; at = refl; number = k; within = here; position = (let q : k ≡ 0 + k = omega arith in q) })
+    (λ later. let rest = part_from counted part made same ys later.0 z later.2 in
+    let before : List Y = flat_map counted (take rest.place ys) in
+    let longer : length (counted y ++ before) ≡ length (counted y) + length before = length-append (counted y) before in record {
+      place = suc rest.place;
+      element = rest.element;
+      at = rest.at;
+      number = rest.number;
+      within = rest.within;
+      position = (let q : k ≡ length (counted y ++ before) + rest.number = omega (arith, longer, same y, later.1, rest.position) in q);
+    })
+    (in_either_at (part (made y)) (flat_map part (map made ys)) k z e)
+
+-- the parts of an element come before those of a later one
+pub parts_before : {X Y : Type 0} (counted : X → List Y) (xs : List X) (i j : ℕ) (x : X) → slice_get xs i ≡ Some x → i < j
+    → length (flat_map counted (take i xs)) + length (counted x) ≤ length (flat_map counted (take j xs))
+parts_before counted [] i j x e lt = absurd (cc)
+parts_before counted (y ∷ ys) i zero x e lt = absurd (omega (arith, lt))
+parts_before {X} {Y} counted (y ∷ ys) zero (suc j) x e lt =
+    let same : y ≡ x = cc in
+    let longer : length (counted y ++ flat_map counted (take j ys)) ≡ length (counted y) + length (flat_map counted (take j ys)) = length-append (counted y) (flat_map counted (take j ys)) in
+    subst (λ (z : X). 0 + length (counted z) ≤ length (counted y ++ flat_map counted (take j ys))) same (omega (arith, longer))
+parts_before {X} {Y} counted (y ∷ ys) (suc i) (suc j) x e lt =
+    let rest = parts_before counted ys i j x e (omega (arith, lt)) in
+    let one : length (counted y ++ flat_map counted (take i ys)) ≡ length (counted y) + length (flat_map counted (take i ys)) = length-append (counted y) (flat_map counted (take i ys)) in
+    let other : length (counted y ++ flat_map counted (take j ys)) ≡ length (counted y) + length (flat_map counted (take j ys)) = length-append (counted y) (flat_map counted (take j ys)) in
+    omega (arith, rest, one, other)
