@@ -16,3 +16,4 @@ pub mod OneFile
 pub mod MadeNames
 pub mod MadeTerms
 pub mod MadeSteps
+pub mod NoCycleBack

@@ -134,7 +134,7 @@ module _ (p : placed.File) (h : IsPassed p) where
   pub functions : IsCounted 256 (λ (f : placed.Function). f.name.text) (texts p.sorts) p.functions
   functions = counted 256 (λ (f : placed.Function). f.name.text) (λ f. f.name) (texts p.sorts) p.functions (λ f. refl) sorts.numbered
       (λ k f at. (passed_both (declared_checks 256 k (above_functions p ++ function_texts (take k p.functions)) f.name)
-      (used_check (texts p.sorts) f.source ∷ used_check (texts p.sorts) f.target ∷ check f.name.at (Cycle (record { n = k })) (closes_cycle (take k p.functions) f) ∷ [])
+      (used_check (texts p.sorts) f.source ∷ used_check (texts p.sorts) f.target ∷ check f.name.at (Cycle (record { n = k })) (closes_cycle p (take k p.functions) f) ∷ [])
       (passed_each (function_checks p) p.functions h.functions k f at)).0)
 
   pub constants : IsCounted 256 (λ (d : Declared). d.name.text) (above_constants p) p.constants

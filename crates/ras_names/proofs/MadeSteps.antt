@@ -52,7 +52,7 @@ use Rattle.ras_names.proofs.MadeTerms.{number_of, base-sorted, is_sort, agreed, 
 pub lower : (limit n : ℕ) → nat_le limit n ≡ false → n < limit
 lower limit n h = ⊎_elim (λ lt. lt) (λ ge. absurd (no_true _ (le-leb limit n ge) h)) (cases_lt n limit)
 
-any_at : {X : Type 0} (test : X → Bool) (xs : List X) (k : ℕ) (x : X) → slice_get xs k ≡ Some x → test x ≡ true → list_any test xs ≡ true
+pub any_at : {X : Type 0} (test : X → Bool) (xs : List X) (k : ℕ) (x : X) → slice_get xs k ≡ Some x → test x ≡ true → list_any test xs ≡ true
 any_at test [] k x e h = absurd (cc)
 any_at {X} test (y ∷ xs) zero x e h = let same : y ≡ x = cc in here (test y) (ap test same ∙ h)
   where

@@ -33,16 +33,16 @@ either_true true b h = inl refl
 either_true false b h = inr h
 
 -- linked functions from a sort to a sort
-abbrev Walk : List FunDecl → List FunDecl → SortId → SortId → Type 0
+abbrev pub Walk : List FunDecl → List FunDecl → SortId → SortId → Type 0
 Walk functions [] a b = a ≡ b
 Walk functions (d ∷ ds) a b = Contains functions d × (d.source ≡ a) × Walk functions ds d.target b
 
-record IsWalked (functions : List FunDecl) (d : FunDecl) (ds : List FunDecl) (b : SortId) : Type 0 where
-  linked : IsLinked (d ∷ ds)
-  known : All (Contains functions) ds
-  ends : end_of d ds ≡ b
+pub record IsWalked (functions : List FunDecl) (d : FunDecl) (ds : List FunDecl) (b : SortId) : Type 0 where
+  pub linked : IsLinked (d ∷ ds)
+  pub known : All (Contains functions) ds
+  pub ends : end_of d ds ≡ b
 
-walked : (functions : List FunDecl) (d : FunDecl) (ds : List FunDecl) (b : SortId) → Walk functions ds d.target b → IsWalked functions d ds b
+pub walked : (functions : List FunDecl) (d : FunDecl) (ds : List FunDecl) (b : SortId) → Walk functions ds d.target b → IsWalked functions d ds b
 walked functions d [] b w = record { linked = tt; known = All-nil (Contains functions); ends = w }
 walked functions d (e ∷ ds) b w =
     let rest = walked functions e ds b w.2 in
@@ -84,12 +84,12 @@ module _ (p : placed.File) (system : SystemParts) (denotes : FileDenotes (file_o
       (d.decl ∷ rest.0, (d.known, source, rest.1)))
       (either_true (bytes_eq from to) (list_any (λ (f : placed.Function). bytes_eq f.source.text from && leads above n f.target.text to) above) e)
 
-  pub no-cycle : (k : ℕ) (f : placed.Function) → slice_get p.functions k ≡ Some f → closes_cycle (take k p.functions) f ≡ false
+  pub no-cycle : (k : ℕ) (f : placed.Function) → slice_get p.functions k ≡ Some f → closes_cycle p (take k p.functions) f ≡ false
   no-cycle k f at =
-      not_true (closes_cycle (take k p.functions) f) (λ h.
+      not_true (closes_cycle p (take k p.functions) f) (λ h.
       let d : IsDecl f = decl_of k f at in
       let above : List placed.Function = take k p.functions in
-      let walk = leads-walk above (λ j g e. decl_of j g (take_at k p.functions j g e).0) (length above) f.target.text f.source.text d.decl.target d.decl.source d.denoted_by.target d.denoted_by.source h in
+      let walk = leads-walk above (λ j g e. decl_of j g (take_at k p.functions j g e).0) (length p.sorts) f.target.text f.source.text d.decl.target d.decl.source d.denoted_by.target d.denoted_by.source h in
       let is = walked functions d.decl walk.0 d.decl.source walk.1 in
       let chain : IsChain functions (d.decl ∷ walk.0) = record { known = All-cons (Contains functions) d.decl walk.0 d.known is.known; linked = is.linked } in
       acyclic-no_cycle system.shape.schema.sorts functions denotes.is_system.shape.schema.acyclic (d.decl, walk.0, chain, is.ends))

@@ -76,7 +76,7 @@ module _ (p : placed.File) (system : SystemParts) (denotes : FileDenotes (file_o
       let known : List Text = above_functions p ++ function_texts (take k p.functions) in
       let source : Check = used_check (texts p.sorts) f.source in
       let target : Check = used_check (texts p.sorts) f.target in
-      let cycle : Check = check f.name.at (Cycle (record { n = k })) (closes_cycle (take k p.functions) f) in
+      let cycle : Check = check f.name.at (Cycle (record { n = k })) (closes_cycle p (take k p.functions) f) in
       pass_both (declared_checks 256 k known f.name) (source ∷ target ∷ cycle ∷ [])
       (declared-passes 256 k (length system.shape.schema.functions) known f.name (slice_get_within system.shape.schema.functions k d.0 d.1) denotes.schema_limits.functions
       (fresh-made (λ (g : placed.Function). g.name.text) (above_functions p) p.functions k f (subst AreNumbered (functions_above p) (clear.functions all denotes.new_names)) at))

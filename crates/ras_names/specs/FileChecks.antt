@@ -17,9 +17,10 @@ leads functions zero from to = bytes_eq from to
 leads functions (suc n) from to =
     bytes_eq from to || list_any (λ (f : placed.Function). bytes_eq f.source.text from && leads functions n f.target.text to) functions
 
--- the functions above lead from the target of the function back to its source
-abbrev pub closes_cycle : List placed.Function → placed.Function → Bool
-closes_cycle above f = leads above (length above) f.target.text f.source.text
+-- The functions above lead from the target of the function back to its source. Without a cycle among them they are fewer
+-- than the sorts.
+abbrev pub closes_cycle : placed.File → List placed.Function → placed.Function → Bool
+closes_cycle file above f = leads above (length file.sorts) f.target.text f.source.text
 
 abbrev pub sort_checks : placed.File → ℕ → Name → List Check
 sort_checks file n s = declared_checks 64 n (texts (take n file.sorts)) s
@@ -33,7 +34,7 @@ function_checks file n f =
     declared_checks 256 n (above_functions file ++ function_texts (take n file.functions)) f.name
     ++ (used_check (texts file.sorts) f.source
     ∷ used_check (texts file.sorts) f.target
-    ∷ check f.name.at (Cycle (record { n = n })) (closes_cycle (take n file.functions) f)
+    ∷ check f.name.at (Cycle (record { n = n })) (closes_cycle file (take n file.functions) f)
     ∷ [])
 
 abbrev pub above_constants : placed.File → List Text
