@@ -17,3 +17,4 @@ pub mod MadeNames
 pub mod MadeTerms
 pub mod MadeSteps
 pub mod NoCycleBack
+pub mod MadeItems

@@ -165,7 +165,7 @@ module _ (p : placed.File) (h : IsPassed p) where
       (λ j c c_at. (passed_both (declared_checks 32 j (declared_texts (take j (columns r))) c.name) (used_check (texts p.sorts) c.of ∷ []) (passed_each (column_checks p (columns r)) (columns r) of j c c_at)).0)
 
   -- the shared names above the first steps
-  above-numbered : (n : ℕ) → AreNumbered (checks.above_step p n)
+  pub above-numbered : (n : ℕ) → AreNumbered (checks.above_step p n)
   above-numbered n = fresh-numbered (λ (s : placed.Step). s.name.text) (above_steps p) (take n p.steps) relations.numbered (λ k s at.
       let t = take_at n p.steps k s at in
       subst (λ (ss : List placed.Step). is_among (above_steps p ++ map (λ (q : placed.Step). q.name.text) ss) s.name.text ≡ false) (sym (take-take n k p.steps t.1)) (step_fresh k s t.0))
