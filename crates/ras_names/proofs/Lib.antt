@@ -18,3 +18,4 @@ pub mod MadeTerms
 pub mod MadeSteps
 pub mod NoCycleBack
 pub mod MadeItems
+pub mod MadeFile

@@ -1,6 +1,6 @@
 -- Where all checks of a file pass, its steps and its unsafe items denote.
-use Rattle.std.proofs.Common.{◌≡◌, ℕ, zero, suc, ◌+◌, ◌<◌, ◌≤◌, Bool, true, false, List, [], ◌∷◌, ◌++◌, length, take, map, refl, sym, ◌∙◌, ap, subst, arith, ⊎_elim}
-use Rattle.std.specs.Prelude.{◌≢◌, Option, Some, None, slice_get, All, AllPairs, nat_le, flat_map}
+use Rattle.std.proofs.Common.{◌≡◌, ℕ, ◌+◌, ◌<◌, ◌≤◌, false, List, [], ◌∷◌, ◌++◌, length, take, map, refl, sym, ◌∙◌, ap, subst, arith, ⊎_elim}
+use Rattle.std.specs.Prelude.{◌≢◌, Option, Some, None, slice_get}
 use Rattle.std.proofs.lemmas.Bool.{cases_lt}
 use Rattle.std.proofs.lemmas.List.{map-append, length-map}
 use Rattle.std.proofs.lemmas.Option.{slice_get_within}
@@ -14,45 +14,42 @@ use Rattle.ras_logic.specs.declared.literal.Literal.TheVariants.{Equal}
 use Rattle.ras_logic.specs.declared.problem.Problem.{Problem}
 use Rattle.ras_logic.specs.Schemas.{IsSort}
 use Rattle.ras_logic.specs.Shapes.{ShapeParts, IsRelation}
-use Rattle.ras_logic.specs.Formulas.{LiteralFits, Fits, IsNoParam, HasNoParam, IsCube}
-use Rattle.ras_system.specs.declared.update.Update.{Update}
+use Rattle.ras_logic.specs.Formulas.{Fits, IsNoParam, HasNoParam, IsCube}
 use Rattle.ras_system.specs.declared.bulk.Bulk.{Bulk}
 use Rattle.ras_system.specs.declared.transition.Transition.{Transition}
-use Rattle.ras_system.specs.Systems.{bulk_rows, BulkFits, AreInGroups, IsTransition}
+use Rattle.ras_system.specs.Systems.{BulkFits, AreInGroups, IsTransition}
 use Rattle.ras_system.specs.SystemFaults.{HasTransitionLimits, HasGoalLimits}
 use Rattle.ras_syntax.specs.Grammar as grammar
 use Rattle.ras_syntax.specs.Grammar.{Text}
 use Rattle.ras_names.specs.declared.names.Names.{Names}
-use Rattle.ras_names.specs.declared.spec_fault.SpecKind.TheVariants.{TooMany}
 use Rattle.ras_names.specs.Lists.{HasNumber, OneByOne}
 use Rattle.ras_names.specs.FileParts as parts
-use Rattle.ras_names.specs.FileNames.{names_of, names_of_rows, names_of_params}
+use Rattle.ras_names.specs.FileNames.{names_of_rows, names_of_params}
 use Rattle.ras_names.specs.NewNames.{relation_names}
 use Rattle.ras_names.specs.Terms as denoted
 use Rattle.ras_names.specs.Terms.{TermDenotes, LiteralDenotes, ConjunctionDenotes, IsNamed}
-use Rattle.ras_names.specs.Steps.{AssignmentDenotes, RowDenotes, ParamDenotes, UpdateDenotes, step_scope, each_scope, goal_scope, CaseDenotes, StepDenotes, GoalDenotes}
+use Rattle.ras_names.specs.Steps.{AssignmentDenotes, RowDenotes, ParamDenotes, UpdateDenotes, CaseDenotes, StepDenotes, GoalDenotes}
 use Rattle.ras_names.specs.Files.{ColumnsDenote}
 use Rattle.ras_names.specs.Placed as placed
 use Rattle.ras_names.specs.Placed.{Name, Declared, cases, disjuncts}
 use Rattle.ras_names.specs.Unplaced.{relation_of, row_of, param_of, conjunction_of, update_of, assignment_of, case_of, each_of, step_of, goal_of, file_of}
-use Rattle.ras_names.specs.Checks.{Check, check, for_each, is_among, texts, declared_texts, new_check, declared_checks, used_check}
+use Rattle.ras_names.specs.Checks.{for_each, texts, declared_texts, declared_checks, used_check}
 use Rattle.ras_names.specs.TermChecks.{Scope, disjunct_checks, guard_checks}
 use Rattle.ras_names.specs.StepChecks.{relation_texts, row_checks, param_checks, case_checks, case_count, with_row, each_checks}
 use Rattle.ras_names.specs.FileChecks as checks
 use Rattle.ras_names.specs.FileChecks.{goal_count, goal_checks}
-use Rattle.ras_names.proofs.Numbered.{AreNumbered}
-use Rattle.ras_names.proofs.Together.{one_by_one-to, one_by_one-from, one_by_one-made, one_by_one-mapped, one_by_one-length, one_by_one-gives, one_by_one-weaker, one_by_one-more, IsPart, part_from, parts_before}
+use Rattle.ras_names.proofs.Together.{one_by_one-to, one_by_one-from, one_by_one-made, one_by_one-mapped, one_by_one-length, one_by_one-gives, one_by_one-weaker, one_by_one-more, part_from, parts_before}
 use Rattle.ras_names.proofs.OneTerm.{IsClear, one_value}
 use Rattle.ras_names.proofs.OneStep.{each_clear}
 use Rattle.ras_names.proofs.ClearNames.{map-at, relations-numbered, sorts-numbered, step-clear, each-numbered, goal-clear}
 use Rattle.ras_names.proofs.Passing.{Passes, passed_first, passed_both, passed_each, passed_each_from, passed-not}
 use Rattle.ras_names.proofs.Among.{among_at, map_from, below}
 use Rattle.ras_names.proofs.NameLists.{sorts_are, relations_are}
-use Rattle.ras_names.proofs.PassTerms.{IsDeclared, names, here, checked, RowsDenote, ParamsDenote}
+use Rattle.ras_names.proofs.PassTerms.{IsDeclared, names, here}
 use Rattle.ras_names.proofs.PassSteps.{rows_are, params_are}
-use Rattle.ras_names.proofs.MadeNames.{IsPassed, IsInside, inside, IsCounted, rows-counted, params-counted, goal-rows, IsEach, each-parts, above-numbered, at_take, no_true, within_limit}
-use Rattle.ras_names.proofs.MadeTerms.{number_of, is_sort, IsConjunctionMade, made-disjunct}
-use Rattle.ras_names.proofs.MadeSteps.{lower, all-apart, IsGuardMade, made-guard, AreUpdatesMade, made-updates, IsCaseMade, made-case}
+use Rattle.ras_names.proofs.MadeNames.{IsPassed, IsInside, inside, rows-counted, params-counted, goal-rows, IsEach, each-parts, above-numbered, at_take, no_true, within_limit}
+use Rattle.ras_names.proofs.MadeTerms.{number_of, is_sort, made-disjunct}
+use Rattle.ras_names.proofs.MadeSteps.{lower, all-apart, IsGuardMade, made-guard, AreUpdatesMade, made-updates, made-case}
 
 -- a term of a place without data parameters names none
 no_param : (scope : denoted.Scope) → scope.params ≡ [] → (t : grammar.Term) (u : Term) → TermDenotes scope t u → IsNoParam u.base
@@ -192,16 +189,19 @@ module _ (p : placed.File) (shape : ShapeParts) (declared : IsDeclared (file_of 
             subst IsClear same_within
             (each_clear all shape (relations-numbered all declared.new_names) (sorts-numbered all declared.new_names) (step_of s) (with_bulk []) clear (each-numbered (file_of p) declared.new_names k (step_of s) found) j (each_of e) (map-at each_of s.eachs j e e_at) only) in
             let m = made-case p shape declared sorts_are_all s.rows s.params relations sorts e r clear_within (one_by_one-more RowIs s.rows relations row r rows_are_these relation.1) params_are_these count relation.1 n c pass in
-            let b : Bulk = record { relation = r; condition = m.condition; assigns = m.assigns } in
-            (m.low, b, (
-              record {
-                relation = relation.1;
-                condition = subst (λ (q : denoted.Scope). ConjunctionDenotes q (conjunction_of c.condition) m.condition) (sym same_within) m.condition_denotes;
-                assigns = subst (λ (q : denoted.Scope). OneByOne (AssignmentDenotes q (length relations)) (map assignment_of c.assignments) m.assigns) (sym same_within) m.assigns_denote;
-              },
-              record { relation = is_relation e.relation.text r relation.1; condition = m.condition_fits; assigns = m.assigns_fit; once = m.once },
-              m.condition_within
-            ))
+            let b : Bulk = record { relation = r; condition = m.condition; assigns = m.assigns } in (
+              m.low,
+              b,
+              (
+                record {
+                  relation = relation.1;
+                  condition = subst (λ (q : denoted.Scope). ConjunctionDenotes q (conjunction_of c.condition) m.condition) (sym same_within) m.condition_denotes;
+                  assigns = subst (λ (q : denoted.Scope). OneByOne (AssignmentDenotes q (length relations)) (map assignment_of c.assignments) m.assigns) (sym same_within) m.assigns_denote;
+                },
+                record { relation = is_relation e.relation.text r relation.1; condition = m.condition_fits; assigns = m.assigns_fit; once = m.once },
+                m.condition_within,
+              ),
+            )
 
     bulk : (b : List Bulk) × OneByOne GoodCase (parts.step_cases (step_of s)) b
     bulk = one_by_one-made GoodCase (parts.step_cases (step_of s)) (λ n z z_at. (case_made n z z_at).1)

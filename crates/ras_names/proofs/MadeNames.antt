@@ -1,8 +1,8 @@
 -- Where the checks of declared names pass, the names are new.
-use Rattle.std.proofs.Common.{◌≡◌, ℕ, zero, suc, ◌+◌, ◌<◌, ◌≤◌, Bool, true, false, List, [], ◌∷◌, ◌++◌, length, take, map, get_or, refl, sym, ◌∙◌, ap, subst, arith, ⊎_elim, inl, inr, append_assoc, append-nil}
+use Rattle.std.proofs.Common.{◌≡◌, ℕ, zero, suc, ◌+◌, ◌<◌, ◌≤◌, Bool, true, false, List, [], ◌∷◌, ◌++◌, length, take, map, get_or, refl, sym, ◌∙◌, ap, subst, arith, ⊎_elim, inl, inr, append_assoc}
 use Rattle.std.specs.Prelude.{◌⊎◌, Option, Some, None, slice_get, All, Contains, nat_le}
 use Rattle.std.proofs.lemmas.Bool.{cases_lt, le-leb}
-use Rattle.std.proofs.lemmas.Option.{slice_get-get_or, slice_get_within}
+use Rattle.std.proofs.lemmas.Option.{slice_get-get_or}
 use Rattle.ras_syntax.specs.Grammar as grammar
 use Rattle.ras_syntax.specs.Grammar.{Text}
 use Rattle.ras_names.specs.declared.names.RelNames.{RelNames}
@@ -16,17 +16,17 @@ use Rattle.ras_names.specs.NewNames as new
 use Rattle.ras_names.specs.NewNames.{shared_names, AreNew, AreNewNames}
 use Rattle.ras_names.specs.Placed as placed
 use Rattle.ras_names.specs.Placed.{Name, Declared, columns}
-use Rattle.ras_names.specs.Unplaced.{relation_of, column_of, row_of, each_of, step_of, goal_of, file_of}
+use Rattle.ras_names.specs.Unplaced.{relation_of, row_of, each_of, step_of, goal_of, file_of}
 use Rattle.ras_names.specs.Checks.{Check, check, for_each, for_each_from, is_among, texts, declared_texts, new_check, declared_checks, used_check}
 use Rattle.ras_names.specs.TermChecks.{Scope, function_texts, guard_checks}
-use Rattle.ras_names.specs.StepChecks.{variable_texts, relation_texts, row_checks, param_checks, update_checks, case_checks, case_count, with_row, each_checks, inside_checks}
+use Rattle.ras_names.specs.StepChecks.{relation_texts, row_checks, param_checks, update_checks, case_checks, case_count, with_row, each_checks, inside_checks}
 use Rattle.ras_names.specs.FileChecks as checks
 use Rattle.ras_names.specs.FileChecks.{sort_checks, function_checks, constant_checks, initial_checks, variable_checks, column_checks, relation_checks, above_functions, above_constants, above_variables, above_relations, above_steps, step_checks, goal_count, goal_checks, closes_cycle}
 use Rattle.ras_names.proofs.Numbered.{in_left, in_right, in_either_at, AreNumbered}
 use Rattle.ras_names.proofs.ClearNames.{map-at, contains-at}
 use Rattle.ras_names.proofs.Passing.{Passes, passed_first, passed_both, passed_each}
 use Rattle.ras_names.proofs.Among.{among_at, map-map, map_from, take_at}
-use Rattle.ras_names.proofs.NameLists.{both, sorts_are, columns_are, relations_above, step_texts, steps_above, shared_above}
+use Rattle.ras_names.proofs.NameLists.{both, columns_are, relations_above, step_texts, steps_above, shared_above}
 use Rattle.ras_names.proofs.PassSteps.{rows_are, params_are}
 
 pub numbered-different : (names : List Text) → AreNumbered names → AreDifferent names
@@ -53,11 +53,13 @@ fresh-numbered {X} key above xs numbered each name i j a b = go (in_either_at ab
     old k x n at e h =
         let number : HasNumber (above ++ map key (take k xs)) (key x) n = in_left above (map key (take k xs)) n (key x) (h ∙ ap (λ (t : Text). Some t) (sym e)) in
         no_true _ (among_at (above ++ map key (take k xs)) (key x) n number) (each k x at)
+
     later : (k : ℕ) (x : X) (m : ℕ) (y : X) → slice_get xs k ≡ Some x → key x ≡ name → slice_get xs m ≡ Some y → key y ≡ name → k < m → ⊥
     later k x m y at e y_at f lt =
         let number : HasNumber (above ++ map key (take m xs)) (key y) (length above + k) =
         in_right above (map key (take m xs)) k (key y) (map-at key (take m xs) k x (at_take m xs k x lt at) ∙ ap (λ (t : Text). Some t) (e ∙ sym f)) in
         no_true _ (among_at (above ++ map key (take m xs)) (key y) (length above + k) number) (each m y y_at)
+
     go : ((slice_get above i ≡ Some name) ⊎ ((k : ℕ) × (i ≡ length above + k) × (slice_get (map key xs) k ≡ Some name)))
         → ((slice_get above j ≡ Some name) ⊎ ((k : ℕ) × (j ≡ length above + k) × (slice_get (map key xs) k ≡ Some name))) → i ≡ j
     go (inl h) (inl k) = numbered name i j h k
@@ -175,6 +177,7 @@ module _ (p : placed.File) (h : IsPassed p) where
       take-take zero (suc k) ss lt = absurd (omega (arith, lt))
       take-take (suc n) (suc k) [] lt = refl
       take-take (suc n) (suc k) (s ∷ ss) lt = ap (λ (z : List placed.Step). s ∷ z) (take-take n k ss (omega (arith, lt)))
+
       step_fresh : (k : ℕ) (s : placed.Step) → slice_get p.steps k ≡ Some s → is_among (checks.above_step p k) s.name.text ≡ false
       step_fresh k s at =
           let a = (passed_both (declared_checks 256 k (checks.above_step p k) s.name) (inside_checks p (checks.above_step p (k + 1)) s) (passed_each (step_checks p) p.steps h.steps k s at)).0 in

@@ -1,10 +1,10 @@
 -- Where the checks of a step pass, it denotes.
-use Rattle.std.proofs.Common.{◌≡◌, ℕ, zero, suc, ◌+◌, ◌<◌, ◌≤◌, Bool, true, false, List, [], ◌∷◌, ◌++◌, length, take, map, get_or, refl, sym, ◌∙◌, ap, subst, arith, ⊎_elim, inl, inr}
-use Rattle.std.specs.Prelude.{◌≢◌, Option, Some, None, slice_get, option_map, option_and_then, not, ◌&&◌, ◌||◌, All, AllPairs, nat_le, cond}
+use Rattle.std.proofs.Common.{◌≡◌, ℕ, zero, suc, ◌+◌, ◌<◌, ◌≤◌, Bool, true, false, List, [], ◌∷◌, ◌++◌, length, take, map, get_or, refl, sym, ◌∙◌, ap, subst, arith, ⊎_elim}
+use Rattle.std.specs.Prelude.{◌≢◌, Option, Some, None, slice_get, option_map, option_and_then, not, ◌||◌, All, AllPairs, nat_le}
 use Rattle.std.specs.List.{list_any}
 use Rattle.std.specs.Str.{bytes_eq}
 use Rattle.std.proofs.lemmas.Bool.{cases_lt, le-leb, and_from}
-use Rattle.std.proofs.lemmas.Option.{slice_get_within, slice_get-get_or}
+use Rattle.std.proofs.lemmas.Option.{slice_get-get_or}
 use Rattle.ras_logic.specs.declared.ids.SortId.{SortId}
 use Rattle.ras_logic.specs.declared.ids.RelId.{RelId}
 use Rattle.ras_logic.specs.declared.term.Base.TheVariants as base
@@ -17,7 +17,6 @@ use Rattle.ras_system.specs.declared.update.Target.{Target}
 use Rattle.ras_system.specs.declared.update.Target.TheVariants as target
 use Rattle.ras_system.specs.declared.update.Update.{Update}
 use Rattle.ras_system.specs.declared.bulk.Assign.{Assign}
-use Rattle.ras_system.specs.declared.bulk.Bulk.{Bulk}
 use Rattle.ras_system.specs.Systems.{target_term, UpdateFits, assign_literal}
 use Rattle.ras_syntax.specs.Grammar as grammar
 use Rattle.ras_syntax.specs.Grammar.{Text}
@@ -33,20 +32,20 @@ use Rattle.ras_names.specs.Placed as placed
 use Rattle.ras_names.specs.Placed.{Name, Declared, disjuncts}
 use Rattle.ras_names.specs.Unplaced.{conjunction_of, variable_of, update_of, assignment_of, file_of}
 use Rattle.ras_names.specs.Checks.{Check, check, for_each, is_among, declared_texts, declared_of, used_check}
-use Rattle.ras_names.specs.TermChecks.{Scope, agree, columns_named, term_sort, term_checks, cell_checks, conjunction_checks, disjunct_checks, guard_checks}
+use Rattle.ras_names.specs.TermChecks.{Scope, agree, columns_named, term_sort, term_checks, conjunction_checks, disjunct_checks, guard_checks}
 use Rattle.ras_names.specs.StepChecks.{variable_texts, is_same_column, is_same_target, target_checks, target_sort, update_checks, assignment_checks, case_checks}
 use Rattle.ras_names.specs.Files.{IsSortNamed}
-use Rattle.ras_names.proofs.Numbered.{in_right, AreNumbered}
+use Rattle.ras_names.proofs.Numbered.{in_right}
 use Rattle.ras_names.proofs.Together.{one_by_one-to, one_by_one-from, one_by_one-made, one_by_one-mapped, one_by_one-length, one_by_one-gives, one_by_one-weaker}
 use Rattle.ras_names.proofs.OneTerm.{IsClear, one_value}
 use Rattle.ras_names.proofs.ClearNames.{map-at}
 use Rattle.ras_names.proofs.Passing.{Passes, passed_first, passed_both, passed_each, passed-not}
-use Rattle.ras_names.proofs.Among.{same_text, text_same, among_at, map_from}
+use Rattle.ras_names.proofs.Among.{same_text, among_at, map_from}
 use Rattle.ras_names.proofs.NameLists.{vars_are}
-use Rattle.ras_names.proofs.PassTerms.{IsDeclared, names, IsSortText, is_sort_text, here, checked, RowsDenote, ParamsDenote, cell-good, column-good}
-use Rattle.ras_names.proofs.PassSteps.{IsGoodTarget, target-good}
+use Rattle.ras_names.proofs.PassTerms.{IsDeclared, names, here, checked, RowsDenote, ParamsDenote, column-good}
+use Rattle.ras_names.proofs.PassSteps.{target-good}
 use Rattle.ras_names.proofs.MadeNames.{at_take, no_true, within_limit}
-use Rattle.ras_names.proofs.MadeTerms.{number_of, base-sorted, is_sort, agreed, IsCellMade, cell-made, IsColumnMade, column-made, made-term, IsConjunctionMade, made-conjunction, made-disjunct}
+use Rattle.ras_names.proofs.MadeTerms.{number_of, base-sorted, is_sort, agreed, cell-made, column-made, made-term, IsConjunctionMade, made-conjunction, made-disjunct}
 
 -- a number that is not beyond the limit
 pub lower : (limit n : ℕ) → nat_le limit n ≡ false → n < limit

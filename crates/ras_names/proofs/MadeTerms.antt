@@ -1,15 +1,11 @@
 -- Where the checks of a term or literal pass, it denotes.
-use Rattle.std.proofs.Common.{◌≡◌, ℕ, zero, suc, ◌+◌, ◌<◌, ◌≤◌, Bool, true, false, List, [], ◌∷◌, ◌++◌, length, map, nat_eq, refl, sym, ◌∙◌, ap, subst, arith, ⊎_elim, inl, inr}
-use Rattle.std.specs.Prelude.{◌⊎◌, Option, Some, None, slice_get, option_map, option_and_then, not, All, find, nat_le, nat_lt}
+use Rattle.std.proofs.Common.{◌≡◌, ℕ, ◌<◌, ◌≤◌, true, false, List, [], ◌∷◌, ◌++◌, length, map, refl, sym, ◌∙◌, ap, subst, arith, ⊎_elim}
+use Rattle.std.specs.Prelude.{Option, Some, None, slice_get, option_map, option_and_then, not, All, nat_le}
 use Rattle.std.specs.Option.{option_map_or}
-use Rattle.std.specs.Str.{bytes_eq}
 use Rattle.std.proofs.lemmas.List.{length-map}
 use Rattle.std.proofs.lemmas.Option.{slice_get_within}
-use Rattle.std.proofs.lemmas.Bool.{lt-ltb}
 use Rattle.ras_logic.specs.declared.ids.SortId.{SortId}
 use Rattle.ras_logic.specs.declared.ids.FunId.{FunId}
-use Rattle.ras_logic.specs.declared.ids.ConstId.{ConstId}
-use Rattle.ras_logic.specs.declared.ids.VarId.{VarId}
 use Rattle.ras_logic.specs.declared.ids.RelId.{RelId}
 use Rattle.ras_logic.specs.declared.function.FunDecl.{FunDecl}
 use Rattle.ras_logic.specs.declared.term.Base.{Base}
@@ -23,31 +19,29 @@ use Rattle.ras_logic.specs.Formulas.{LiteralFits}
 use Rattle.ras_logic.proofs.TermSorts.{and_then_through, and_then_from, sort_along-append, sort_after-known, sort_of-undef}
 use Rattle.ras_syntax.specs.Grammar as grammar
 use Rattle.ras_syntax.specs.Grammar.{Text}
-use Rattle.ras_names.specs.declared.names.RelNames.{RelNames}
 use Rattle.ras_names.specs.declared.names.Names.{Names}
 use Rattle.ras_names.specs.declared.spec_fault.SpecKind.TheVariants.{WrongSort, TooWide}
 use Rattle.ras_names.specs.Lists.{HasNumber, OneByOne}
 use Rattle.ras_names.specs.FileParts as parts
-use Rattle.ras_names.specs.FileNames.{names_of, names_of_relation}
+use Rattle.ras_names.specs.FileNames.{names_of_relation}
 use Rattle.ras_names.specs.NewNames.{relation_names}
 use Rattle.ras_names.specs.Terms as denoted
 use Rattle.ras_names.specs.Terms.{IsColumn, IsCell, IsNamed, TermDenotes, IsUndef, LiteralDenotes, ConjunctionDenotes}
 use Rattle.ras_names.specs.Files.{IsSortNamed, FunctionDenotes, ColumnsDenote}
 use Rattle.ras_names.specs.Placed as placed
 use Rattle.ras_names.specs.Placed.{Name, Declared, columns, literals, term_place, disjunct_place}
-use Rattle.ras_names.specs.Unplaced.{function_of, constant_of, variable_of, column_of, relation_of, base_of, called_of, term_of, literal_of, conjunction_of, file_of}
-use Rattle.ras_names.specs.Checks.{Check, check, for_each, is_among, declared_texts, declared_of, used_check}
+use Rattle.ras_names.specs.Unplaced.{function_of, constant_of, variable_of, column_of, relation_of, called_of, term_of, literal_of, conjunction_of, file_of}
+use Rattle.ras_names.specs.Checks.{Check, check, is_among, declared_texts, used_check}
 use Rattle.ras_names.specs.TermChecks.{Scope, agree, columns_named, function_named, function_texts, source_of, target_of, plain_names, columns_of_row, cell_checks, cell_sort, base_checks, base_sort, sort_within, argument_checks, term_sort, term_checks, literal_checks, conjunction_checks, disjunct_checks}
-use Rattle.ras_names.specs.StepChecks.{relation_texts}
 use Rattle.ras_names.proofs.Numbered.{in_either_at, AreNumbered}
 use Rattle.ras_names.proofs.Together.{one_by_one-to, one_by_one-made, one_by_one-mapped, one_by_one-length, one_by_one-gives, one_by_one-weaker}
 use Rattle.ras_names.proofs.OneTerm.{IsClear}
 use Rattle.ras_names.proofs.OneStep.{is_undef_or_not}
 use Rattle.ras_names.proofs.ClearNames.{contains-at, map-at, relations-numbered, sorts-numbered}
 use Rattle.ras_names.proofs.Passing.{Passes, passed_first, passed_both, passed_each, passed-not}
-use Rattle.ras_names.proofs.Among.{text_same, among_at, map_from, found_at}
+use Rattle.ras_names.proofs.Among.{text_same, map_from, found_at}
 use Rattle.ras_names.proofs.NameLists.{functions_are, constants_are, vars_are, relations_are, columns_are}
-use Rattle.ras_names.proofs.PassTerms.{IsDeclared, names, IsSortText, is_sort_text, IsFound, declared_found, here, checked, RowsDenote, ParamsDenote, IsGoodCell, cell-good, IsGoodPlain, plain-good, plain_texts}
+use Rattle.ras_names.proofs.PassTerms.{IsDeclared, names, IsSortText, is_sort_text, IsFound, declared_found, here, checked, RowsDenote, ParamsDenote, cell-good, plain-good, plain_texts}
 use Rattle.ras_names.proofs.MadeNames.{within_limit}
 use Rattle.std.proofs.lemmas.Map.Views.{Contains-from_any}
 
@@ -107,7 +101,7 @@ module _ (p : placed.File) (shape : ShapeParts) (declared : IsDeclared (file_of 
         is_column = (
           names_of_relation (relation_of z.0),
           map-at names_of_relation (map relation_of p.relations) r.n (relation_of z.0) (map-at relation_of p.relations r.n z.0 z.1),
-          subst (λ (ts : List Text). HasNumber ts column number.0) (sym (columns_are z.0)) number.1
+          subst (λ (ts : List Text). HasNumber ts column number.0) (sym (columns_are z.0)) number.1,
         );
         sorts = sorts.0;
         found = sorts.1;
@@ -173,11 +167,13 @@ module _ (p : placed.File) (shape : ShapeParts) (declared : IsDeclared (file_of 
             let w = map_from (λ (x : Declared). x.name.text) p.constants i n.text (subst (λ (ts : List Text). HasNumber ts n.text i) (constants_are p) h) in
             let s = one_by_one-to (λ (x : grammar.Constant). IsSortNamed all x.sort) (map constant_of p.constants) shape.schema.constants i (constant_of w.0) declared.constants (map-at constant_of p.constants i w.0 w.1) in
             record { base = base.Constant (record { n = i }); named = h; sort = s.0; has = s.1 }
+
         of_var : (i : ℕ) → HasNumber all.vars n.text i → IsPlainMade n
         of_var i h =
             let w = map_from (λ (x : placed.Variable). x.name.text) p.variables i n.text (subst (λ (ts : List Text). HasNumber ts n.text i) (vars_are p) h) in
             let s = one_by_one-to (λ (x : grammar.Variable). IsSortNamed all x.sort) (map variable_of p.variables) shape.vars i (variable_of w.0) declared.variables (map-at variable_of p.variables i w.0 w.1) in
             record { base = base.Var (record { n = i }); named = h; sort = s.0; has = s.1 }
+
         of_param : (i : ℕ) → HasNumber (declared_texts params) n.text i → IsPlainMade n
         of_param i h =
             let w = map_from (λ (x : Declared). x.name.text) params i n.text h in
@@ -301,6 +297,7 @@ module _ (p : placed.File) (shape : ShapeParts) (declared : IsDeclared (file_of 
       where
         any_sort : SortId
         any_sort = record { n = 0 }
+
         left_undef : Passes (term_checks seen l.left) → Passes (term_checks seen l.right) → agree (term_sort seen l.left) (term_sort seen l.right) ≡ true → IsUndef (term_of l.left) → (x : Literal) × Good l x
         left_undef one other fits u =
             let none : term_sort seen l.left ≡ None = undef_none l.left.functions l.left.base u in
@@ -309,6 +306,7 @@ module _ (p : placed.File) (shape : ShapeParts) (declared : IsDeclared (file_of 
             let r = made-term l.right any_sort other (λ v. absurd (no_undef v)) in
             let q = made-term l.left r.sort one (λ v. r.is_sort_of) in
             (Equal q.term r.term l.equal, ((q.denotes, r.denotes, refl, λ h. no_undef h.1), (r.sort, subst (has_sort q.term) (q.wanted none) q.has, r.has)))
+
         left_not : Passes (term_checks seen l.left) → Passes (term_checks seen l.right) → agree (term_sort seen l.left) (term_sort seen l.right) ≡ true → (IsUndef (term_of l.left) → ⊥) → (x : Literal) × Good l x
         left_not one other fits u =
             let q = made-term l.left any_sort one (λ v. absurd (u v)) in

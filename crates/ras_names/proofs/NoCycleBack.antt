@@ -6,10 +6,10 @@ use Rattle.std.specs.Str.{bytes_eq}
 use Rattle.std.proofs.lemmas.Bool.{cases_lt, and_from}
 use Rattle.std.proofs.lemmas.List.{take_all}
 use Rattle.std.proofs.lemmas.Option.{slice_get_within, slice_get-get_or, get_or_from_slice_get}
-use Rattle.std.proofs.lemmas.List.Elements.{All-head, All-tail, All-cons, All-nil}
+use Rattle.std.proofs.lemmas.List.Elements.{All-head, All-tail, All-cons}
 use Rattle.ras_logic.specs.declared.ids.SortId.{SortId}
 use Rattle.ras_logic.specs.declared.function.FunDecl.{FunDecl}
-use Rattle.ras_logic.specs.Schemas.{HasSorts, IsLinked, IsChain, IsAcyclic}
+use Rattle.ras_logic.specs.Schemas.{HasSorts, IsChain, IsAcyclic}
 use Rattle.ras_logic.specs.SchemaFaults.{end_of, HasCycle}
 use Rattle.ras_logic.proofs.Rounds.{HasLongChain-cycle}
 use Rattle.ras_syntax.specs.Grammar.{Text}
@@ -20,13 +20,13 @@ use Rattle.ras_names.specs.Placed as placed
 use Rattle.ras_names.specs.Unplaced.{function_of, file_of}
 use Rattle.ras_names.specs.FileChecks.{leads, closes_cycle}
 use Rattle.ras_names.proofs.Numbered.{at_contains}
-use Rattle.ras_names.proofs.Together.{one_by_one-to, one_by_one-from}
+use Rattle.ras_names.proofs.Together.{one_by_one-from}
 use Rattle.ras_names.proofs.OneTerm.{one_value}
-use Rattle.ras_names.proofs.ClearNames.{contains-at, map-at}
+use Rattle.ras_names.proofs.ClearNames.{contains-at}
 use Rattle.ras_names.proofs.Among.{same_text, take_at, map_from}
 use Rattle.ras_names.proofs.MadeNames.{at_take, no_true, all-from}
 use Rattle.ras_names.proofs.MadeSteps.{any_at}
-use Rattle.ras_names.proofs.NoCycle.{Walk, IsWalked, walked}
+use Rattle.ras_names.proofs.NoCycle.{Walk, walked}
 
 acyclic_from : (sorts : ℕ) (functions : List FunDecl) → All (HasSorts sorts) functions → (HasCycle functions → ⊥) → IsAcyclic sorts functions
 acyclic_from sorts functions good none f fs chain =

@@ -1,7 +1,7 @@
 -- A file that denotes a system has no fault.
-use Rattle.std.proofs.Common.{◌≡◌, ℕ, ◌+◌, ◌<◌, ◌≤◌, false, List, [], ◌∷◌, ◌++◌, length, take, map, refl, sym, ◌∙◌, ap, subst, arith}
+use Rattle.std.proofs.Common.{◌≡◌, ℕ, ◌+◌, ◌<◌, ◌≤◌, false, List, [], ◌∷◌, ◌++◌, length, take, map, refl, sym, ◌∙◌, subst, arith}
 use Rattle.std.specs.Prelude.{Option, Some, None, slice_get, option_map, not, All, nat_le}
-use Rattle.std.proofs.lemmas.List.{length-map, take-map, take_all}
+use Rattle.std.proofs.lemmas.List.{length-map, take-map}
 use Rattle.std.proofs.lemmas.Option.{slice_get_within}
 use Rattle.ras_logic.specs.declared.ids.SortId.{SortId}
 use Rattle.ras_logic.specs.declared.ids.ConstId.{ConstId}
@@ -31,7 +31,7 @@ use Rattle.ras_names.specs.Placed.{Name, Declared, columns, disjuncts}
 use Rattle.ras_names.specs.Unplaced.{sort_of, function_of, constant_of, variable_of, column_of, relation_of, row_of, conjunction_of, each_of, step_of, goal_of, file_of}
 use Rattle.ras_names.specs.Checks.{Check, check, for_each, is_among, texts, declared_texts, declared_of, new_check, declared_checks, used_check}
 use Rattle.ras_names.specs.TermChecks.{Scope, agree, function_texts, disjunct_checks, guard_checks}
-use Rattle.ras_names.specs.StepChecks.{variable_texts, relation_texts, row_checks, inside_checks}
+use Rattle.ras_names.specs.StepChecks.{row_checks, inside_checks}
 use Rattle.ras_names.specs.FileChecks as checks
 use Rattle.ras_names.specs.FileChecks.{closes_cycle, sort_checks, function_checks, constant_checks, initial_checks, variable_checks, column_checks, relation_checks, above_functions, above_constants, above_variables, above_relations, above_steps, step_checks, goal_count, goal_checks, first_fault}
 use Rattle.ras_names.proofs.Numbered.{AreNumbered, different-numbered}
@@ -39,7 +39,7 @@ use Rattle.ras_names.proofs.Together.{one_by_one-at, one_by_one-to, one_by_one-m
 use Rattle.ras_names.proofs.OneTerm.{IsClear}
 use Rattle.ras_names.proofs.ClearNames.{map-at, all-at, goal-clear}
 use Rattle.ras_names.proofs.ClearNames as clear
-use Rattle.ras_names.proofs.NameLists.{both, sorts_are, functions_are, constants_are, functions_above, constants_above, variables_above, relations_above, step_texts, steps_above, shared_above}
+use Rattle.ras_names.proofs.NameLists.{both, sorts_are, constants_are, functions_above, constants_above, variables_above, relations_above, step_texts, steps_above, shared_above}
 use Rattle.ras_names.proofs.Passing.{Passes, pass_first, pass_one, pass_both, pass_each, pass_each_from, not-passes}
 use Rattle.ras_names.proofs.Among.{fresh, map-map, map_from, below}
 use Rattle.ras_names.proofs.PassTerms.{declared_by, names, IsSortText, agree-good, some_not_none, IsFound, declared_found, disjunct-passes}

@@ -17,18 +17,17 @@ use Rattle.ras_logic.specs.Formulas.{LiteralFits}
 use Rattle.ras_system.specs.declared.update.Target.{Target}
 use Rattle.ras_system.specs.declared.update.Target.TheVariants as target
 use Rattle.ras_system.specs.declared.update.Update.{Update}
-use Rattle.ras_system.specs.Systems.{SystemParts, target_term, UpdateFits}
+use Rattle.ras_system.specs.Systems.{target_term, UpdateFits}
 use Rattle.ras_syntax.specs.Grammar as grammar
 use Rattle.ras_syntax.specs.Grammar.{Text}
 use Rattle.ras_names.specs.declared.names.Names.{Names}
 use Rattle.ras_names.specs.declared.spec_fault.SpecKind.TheVariants.{WrongSort, TooMany, RepeatedTarget}
 use Rattle.ras_names.specs.Lists.{HasNumber, OneByOne}
-use Rattle.ras_names.specs.FileNames.{names_of, names_of_rows, names_of_params}
+use Rattle.ras_names.specs.FileNames.{names_of_rows, names_of_params}
 use Rattle.ras_names.specs.NewNames.{relation_names}
 use Rattle.ras_names.specs.Terms as denoted
 use Rattle.ras_names.specs.Terms.{IsCell, TermDenotes, ConjunctionDenotes}
 use Rattle.ras_names.specs.Steps.{TargetDenotes, UpdateDenotes}
-use Rattle.ras_names.specs.Files.{FileDenotes}
 use Rattle.ras_names.specs.Placed as placed
 use Rattle.ras_names.specs.Placed.{Name, Declared, cases, disjuncts}
 use Rattle.ras_names.specs.Unplaced.{row_of, param_of, conjunction_of, variable_of, update_of, file_of}

@@ -31,9 +31,8 @@ use Rattle.ras_names.specs.Files.{IsSortNamed, FunctionDenotes, ColumnsDenote, F
 use Rattle.ras_names.specs.Placed as placed
 use Rattle.ras_names.specs.Placed.{Name, Declared, columns, literals, disjuncts, term_place, disjunct_place}
 use Rattle.ras_names.specs.Unplaced.{function_of, constant_of, variable_of, column_of, relation_of, called_of, term_of, literal_of, conjunction_of, file_of}
-use Rattle.ras_names.specs.Checks.{Check, check, is_among, texts, declared_texts, declared_of, used_check}
+use Rattle.ras_names.specs.Checks.{Check, check, is_among, declared_texts, declared_of, used_check}
 use Rattle.ras_names.specs.TermChecks.{Scope, agree, variable_sort, columns_named, function_named, function_texts, source_of, target_of, plain_names, columns_of_row, cell_checks, cell_sort, base_checks, base_sort, sort_within, argument_checks, term_sort, term_checks, literal_checks, conjunction_checks, disjunct_checks}
-use Rattle.ras_names.specs.StepChecks.{variable_texts, relation_texts}
 use Rattle.ras_names.proofs.Numbered.{in_left, in_right, AreNumbered, different-numbered, numbered-append, apart-append}
 use Rattle.ras_names.proofs.Together.{one_by_one-at, one_by_one-to, one_by_one-map}
 use Rattle.ras_names.proofs.OneTerm.{IsClear, image-inside, one_value}

@@ -1,15 +1,17 @@
 //! What makes the definitions of this crate agree, as functions that do nothing.
 
-ghost use Rattle.std.specs.Prelude.{◌≡◌, List, Some};
+ghost use Rattle.std.specs.Prelude.{◌≡◌, ◌⊎◌, List, Some, None};
 ghost use Rattle.ras_lexer.specs.declared.token.Token.{Token};
 ghost use Rattle.ras_system.specs.Systems.{SystemParts};
 ghost use Rattle.ras_syntax.specs.Grammar as grammar;
 ghost use Rattle.ras_names.specs.declared.names.Names as declared;
 ghost use Rattle.ras_names.specs.declared.spec_fault.SpecFault as fault;
+ghost use Rattle.ras_names.specs.FileNames.{names_of};
 ghost use Rattle.ras_names.specs.Files.{FileDenotes};
 ghost use Rattle.ras_names.specs.Texts.{TokensDenote};
 ghost use Rattle.ras_names.specs.Placed as placed;
 ghost use Rattle.ras_names.specs.Unplaced.{file_of};
+ghost use Rattle.ras_names.specs.PlacedTokens.{IsFileOf};
 ghost use Rattle.ras_names.specs.FileChecks.{first_fault};
 ghost use Rattle.ras_names.specs.Faults.{IsFirstFault};
 
@@ -49,3 +51,14 @@ pub fn first_faults_are_one()
 {
     words_determine_the_file();
 }
+
+/// A file without a fault denotes a system, with its own names.
+pub fn a_file_without_a_fault_denotes_a_system()
+    ensures { (file : placed.File) → first_fault file ≡ None → (system : SystemParts) × FileDenotes (file_of file) system (names_of (file_of file)) }
+{}
+
+/// So with tokens that are a file: they denote a system, or they have a first fault.
+pub fn tokens_denote_or_have_a_fault()
+    ensures { (tokens : List Token) (file : placed.File) → IsFileOf tokens file
+        → ((system : SystemParts) × (names : declared.Names) × TokensDenote tokens system names) ⊎ ((first : fault.SpecFault) × IsFirstFault tokens first) }
+{}
