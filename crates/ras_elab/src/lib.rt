@@ -2,3 +2,4 @@
 //! said of it: the layer above uses `placed_file` and its law.
 #![tactic(auto)]
 
+pub mod law;
