@@ -1,0 +1,5 @@
+pub mod Loops
+pub mod Sames
+pub mod SameTerms
+pub mod SameSteps
+pub mod SameFile

@@ -1,0 +1,5 @@
+pub mod Lookup
+pub mod Calls
+pub mod Items
+pub mod Printed
+pub mod Scopes
