@@ -20,7 +20,7 @@ use Rattle.ras_cli.specs.declared.judgement.Judgement.TheVariants.{Valid, Invali
 use Rattle.ras_cli.specs.declared.outcome.Outcome.{Outcome}
 use Rattle.ras_cli.specs.declared.outcome.Outcome.TheVariants.{Judged, TooLong, NotRead, NoCommand}
 use Rattle.ras_cli.specs.Judgements.{IsValidBundle, IsInvalidBundle, IsJudged, judgement_of}
-use Rattle.ras_cli.specs.Outcomes.{most, judgement_status, judgement_text, status_of, text_of, Comes, Holds, IsCutOff}
+use Rattle.ras_cli.specs.Outcomes.{most, judgement_status, judgement_text, status_of, text_of, Comes, NamesJudged, IsCutOff}
 
 module _ (bytes : List ℕ) where
   -- one bundle has one evidence
@@ -100,7 +100,7 @@ told_not_untold t content is = λ none. never content (sym is ∙ none)
     never : (c : List ℕ) → holds c ≡ untold → ⊥
     never c e = cc
 
-module _ (words : List (List ℕ)) (told : List ℕ → Told) (before after : List ℕ → ℕ) (j : Judgement) (h : Holds words told j) where
+module _ (words : List (List ℕ)) (told : List ℕ → Told) (before after : List ℕ → ℕ) (j : Judgement) (h : NamesJudged words told j) where
   -- what comes of a told file that was loaded
   pub comes_judged : (o : Outcome) → Comes words told before after o → (o ≡ Judged j) ⊎ (status_of o ≡ 50)
   comes_judged (Judged k) c =

@@ -69,7 +69,7 @@ Comes words told before after (NotRead name) = IsNotRead words before after name
 Comes words told before after NoCommand = IsNoCommand words
 
 -- the words name a file, of which the shelf tells that it is so judged
-pub record Holds (words : List (List ℕ)) (told : List ℕ → Told) (judgement : Judgement) : Type 0 where
+pub record NamesJudged (words : List (List ℕ)) (told : List ℕ → Told) (judgement : Judgement) : Type 0 where
   pub name : List ℕ
   pub content : List ℕ
   pub check : IsCheck words name

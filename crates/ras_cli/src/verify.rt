@@ -8,7 +8,7 @@ ghost use Rattle.ras_cli.specs.Putting.{PutsFront};
 ghost use Rattle.ras_evidence.specs.Bundles.{DenotesNoSystem, HasNoEvidence, HasOtherEvidence};
 ghost use Rattle.ras_cli.specs.declared.judgement.Judgement.{Judgement};
 ghost use Rattle.ras_cli.specs.Judgements.{IsValidBundle, IsInvalidBundle};
-ghost use Rattle.ras_cli.specs.Outcomes.{most, judgement_status, judgement_text, status_of, text_of, ChecksFile, IsTooLong, IsNotRead, Comes, Holds, IsCutOff};
+ghost use Rattle.ras_cli.specs.Outcomes.{most, judgement_status, judgement_text, status_of, text_of, ChecksFile, IsTooLong, IsNotRead, Comes, NamesJudged, IsCutOff};
 
 use crate::judgement::judged;
 use crate::outcome::Outcome;
@@ -78,8 +78,7 @@ pub fn verify_quiet<R: Threads + Sync, H: Shelf, K: Sink>(
     // What always leads to a status, where nothing else is in the way.
     ensures every_no_command { IsNoCommand (texts words.now) → (result ≡ 40) ⊎ IsCutOff result }
     ensures every_too_long { (name : List ℕ) → IsCheck (texts words.now) name → HoldsMoreThan (H.told shelf.old name) most → (result ≡ 32) ⊎ ((result ≡ 50) ⊎ IsCutOff result) }
-
-    ensures every_judged { (j : Judgement) → Holds (texts words.now) (H.told shelf.old) j
+    ensures every_judged { (j : Judgement) → NamesJudged (texts words.now) (H.told shelf.old) j
         → ((result ≡ judgement_status j) × (K.written out.new ≡ append_known (K.written out.old) (judgement_text j))) ⊎ ((result ≡ 50) ⊎ IsCutOff result) }
 
     // What is written.
