@@ -1,0 +1,6 @@
+mod Standing
+mod Spelled
+mod Terms
+mod Declarations
+mod Items
+mod Again
