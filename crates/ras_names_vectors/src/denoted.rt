@@ -4,6 +4,7 @@ ghost use Rattle.ras_vectors.specs.Desk.{desk};
 ghost use Rattle.ras_names.specs.Unplaced.{file_of};
 ghost use Rattle.ras_names.specs.Files.{FileDenotes};
 ghost use Rattle.ras_names.specs.FileChecks.{first_fault};
+ghost use Rattle.ras_numbering.specs.FileValues.{system_value};
 ghost use Rattle.ras_names_vectors.specs.Processes.{hiring_text, desk_text, nullable_text};
 ghost use Rattle.ras_names_vectors.specs.Denoted.{hiring_names, desk_names, nullable_system, nullable_names};
 
@@ -24,3 +25,10 @@ pub fn texts_of_systems()
 {
     no_fault_is_first_exactly_in_a_system();
 }
+
+/// The same systems by the numbers of the names.
+pub fn values_of_texts()
+    ensures hiring { system_value hiring_text ≡ hiring }
+    ensures desk { system_value desk_text ≡ desk }
+    ensures nullable { system_value nullable_text ≡ nullable_system }
+{}
