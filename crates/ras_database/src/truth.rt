@@ -32,8 +32,8 @@ fn image(db: &Database, f: FunId, x: u32) -> u32
     }
 }
 
-#[tactic(auto, using(crate::proofs::Paths::image_along_rest))]
 /// The image of an element under each function of a path in order. Where a function has no such image it is 0.
+#[tactic(auto, using(crate::proofs::Paths::image_along_rest))]
 pub fn image_along(db: &Database, path: &[FunId], start: u32) -> u32
     ensures { result ≡ the_end db.now path.now start }
 {

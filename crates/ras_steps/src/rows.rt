@@ -68,15 +68,14 @@ fn row_after(
     db: &Database,
     sight: &Sight,
     transition: &Transition,
-    chosen: &[u32],
     relation: usize,
     row: usize,
     cells: &List<u32>,
 ) -> Result<List<u32>, AllocError>
     requires { sight.now.row ≡ None }
-    ensures { IfOk result (λ l. l ≡ the_row_after db.now (seen sight.now) transition.now chosen.now relation row cells.now) }
+    ensures { IfOk result (λ l. l ≡ the_row_after db.now (seen sight.now) transition.now sight.now.chosen.now relation row cells.now) }
 {
-    match named_at(transition.rows.as_slice(), chosen, relation, row) {
+    match named_at(transition.rows.as_slice(), sight.chosen, relation, row) {
         Some(p) => named_row(
             alloc,
             db,
@@ -102,18 +101,15 @@ fn rows_after(
     db: &Database,
     sight: &Sight,
     transition: &Transition,
-    chosen: &[u32],
     relation: usize,
     rows: &[List<u32>],
 ) -> Result<List<List<u32>>, AllocError>
     requires { sight.now.row ≡ None }
-    ensures { IfOk result (λ l. l ≡ map (λ (p : ℕ × List ℕ). the_row_after db.now (seen sight.now) transition.now chosen.now relation p.0 p.1) (enumerate_from 0 rows.now)) }
+    ensures { IfOk result (λ l. l ≡ map (λ (p : ℕ × List ℕ). the_row_after db.now (seen sight.now) transition.now sight.now.chosen.now relation p.0 p.1) (enumerate_from 0 rows.now)) }
 {
     let mut after = List::new(alloc);
     for row in 0..rows.len() {
-        let cells = row_after(
-            alloc, db, sight, transition, chosen, relation, row, &rows[row],
-        )?;
+        let cells = row_after(alloc, db, sight, transition, relation, row, &rows[row])?;
         after.push(cells)?;
     }
     Ok(after)
@@ -125,16 +121,15 @@ fn relations_after(
     db: &Database,
     sight: &Sight,
     transition: &Transition,
-    chosen: &[u32],
     relations: &[List<List<u32>>],
 ) -> Result<List<List<List<u32>>>, AllocError>
     requires { sight.now.row ≡ None }
-    ensures { IfOk result (λ l. l ≡ map (λ (q : ℕ × List (List ℕ)). map (λ (p : ℕ × List ℕ). the_row_after db.now (seen sight.now) transition.now chosen.now q.0 p.0 p.1) (enumerate_from 0 q.1)) (enumerate_from 0 relations.now)) }
+    ensures { IfOk result (λ l. l ≡ map (λ (q : ℕ × List (List ℕ)). map (λ (p : ℕ × List ℕ). the_row_after db.now (seen sight.now) transition.now sight.now.chosen.now q.0 p.0 p.1) (enumerate_from 0 q.1)) (enumerate_from 0 relations.now)) }
 {
     let mut after = List::new(alloc);
     for relation in 0..relations.len() {
         let old = relations[relation].as_slice();
-        let rows = rows_after(alloc, db, sight, transition, chosen, relation, old)?;
+        let rows = rows_after(alloc, db, sight, transition, relation, old)?;
         after.push(rows)?;
     }
     Ok(after)
@@ -160,6 +155,6 @@ pub fn state_after(
     let updates = transition.updates.as_slice();
     let vars = vars_after(alloc, db, &sight, updates, state.vars.as_slice())?;
     let old = state.relations.as_slice();
-    let relations = relations_after(alloc, db, &sight, transition, chosen, old)?;
+    let relations = relations_after(alloc, db, &sight, transition, old)?;
     Ok(State { vars, relations })
 }

@@ -57,6 +57,7 @@ impl<'a> Sight<'a> {
     ) -> Sight<'a>
         ensures values { seen result ≡ values_at state.now relations.now chosen.now params.now }
         ensures row { result.row ≡ None }
+        ensures chosen { result.chosen.now ≡ chosen.now }
     {
         Sight {
             state,

@@ -8,7 +8,7 @@ loop-relation-preserved c =
     let d = c.args.db.now in
     let v = seen c.args.sight.now in
     let t = c.args.transition.now in
-    let chosen = c.args.chosen.now in
+    let chosen = c.args.sight.now.chosen.now in
     let relations = c.args.relations.now in
     let i = c.loop-relation.relation in
     c.in_ok-push.ensures.ok ∙ ap (λ (xs : List (List (List ℕ))). xs ++ c.in_ok-rows.rows ∷ []) c.loop-relation.invariant

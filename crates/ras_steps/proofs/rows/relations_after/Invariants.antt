@@ -6,4 +6,4 @@ use Rattle.ras_steps.proofs.rows.relations_after.Given as goal
 
 abbrev pub invariant-loop-relation : goal.invariant-loop-relation
 invariant-loop-relation l =
-    l.after ≡ map (λ (q : ℕ × List (List ℕ)). map (λ (p : ℕ × List ℕ). the_row_after l.db (seen l.sight) l.transition l.chosen q.0 p.0 p.1) (enumerate_from 0 q.1)) (enumerate_from 0 (take l.relation l.relations))
+    l.after ≡ map (λ (q : ℕ × List (List ℕ)). map (λ (p : ℕ × List ℕ). the_row_after l.db (seen l.sight) l.transition l.sight.chosen.now q.0 p.0 p.1) (enumerate_from 0 q.1)) (enumerate_from 0 (take l.relation l.relations))

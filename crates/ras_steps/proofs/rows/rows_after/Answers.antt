@@ -8,7 +8,7 @@ loop-row-preserved c =
     let d = c.args.db.now in
     let v = seen c.args.sight.now in
     let t = c.args.transition.now in
-    let chosen = c.args.chosen.now in
+    let chosen = c.args.sight.now.chosen.now in
     let rows = c.args.rows.now in
     let i = c.loop-row.row in
     c.in_ok-push.ensures.ok ∙ ap (λ (xs : List (List ℕ)). xs ++ c.in_ok-cells.cells ∷ []) c.loop-row.invariant
