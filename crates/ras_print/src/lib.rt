@@ -12,3 +12,6 @@ mod scope;
 mod steps;
 
 pub use printing::print;
+
+#[cfg(test)]
+mod tests;
