@@ -1,0 +1,4 @@
+pub mod Violations
+pub mod ViolationFaults
+pub mod ReplayTexts
+pub mod InvalidLines

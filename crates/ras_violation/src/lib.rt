@@ -1,0 +1,20 @@
+//! The judge of an evidence of a violation: a database in numbers and a run. What comes out is that they are a violation of the
+//! system, or the first thing that is wrong with them; and the texts that tell of either. The layer above uses the contracts of
+//! `check_violation`, `replay_text` and `invalid_line`.
+#![tactic(auto)]
+
+mod invalid;
+mod judging;
+mod law;
+mod replayed;
+mod violation_fault;
+mod writing;
+
+pub use invalid::invalid_line;
+pub use judging::check_violation;
+pub use law::{
+    a_fault_is_no_violation, a_violation_is_not_safe, no_violation_has_a_fault,
+    the_first_fault_is_one,
+};
+pub use replayed::replay_text;
+pub use violation_fault::{ViolationError, ViolationFault};
