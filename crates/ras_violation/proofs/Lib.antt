@@ -4,3 +4,4 @@ pub mod Judged
 pub mod OneFault
 pub mod Lines
 pub mod Refused
+pub mod OneText

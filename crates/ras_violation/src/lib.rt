@@ -13,8 +13,11 @@ mod writing;
 pub use invalid::invalid_line;
 pub use judging::check_violation;
 pub use law::{
-    a_fault_is_no_violation, a_violation_is_not_safe, no_violation_has_a_fault,
-    the_first_fault_is_one,
+    a_fault_is_no_violation, a_violation_has_one_text, a_violation_is_not_safe,
+    no_violation_has_a_fault, the_first_fault_is_one,
 };
 pub use replayed::replay_text;
 pub use violation_fault::{ViolationError, ViolationFault};
+
+#[cfg(test)]
+mod tests;
