@@ -1,2 +1,36 @@
+mod SameTexts
+mod UsedNames
+mod Leading
+mod EachRows
+mod InOrder
+mod Following
 pub mod Mended
 pub mod Seen
+mod Places
+mod SeenNames
+mod NewNames
+mod Turns
+mod Answered
+mod NamedLeads
+mod FunctionParts
+mod Initials
+mod ColumnParts
+mod InnerNames
+mod Reading
+mod SameSorts
+mod Applying
+mod InsideOut
+mod ReadTerms
+mod ReadLiterals
+mod ReadAssigned
+mod ReadCases
+mod ReadEachs
+mod RowParts
+mod StepParts
+mod SharedNames
+mod NoParams
+mod GoalParts
+mod NamedColumns
+mod NoFault
+mod Assembled
+mod Denoted

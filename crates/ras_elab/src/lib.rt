@@ -1,5 +1,25 @@
-//! Which placed file a tree of the grammar is. The tree of a file comes in, and what `ras_names` says of names and sorts is
-//! said of it: the layer above uses `placed_file` and its law.
+//! The tree of a specification comes in, and the system that it denotes goes out with the names of its parts, or its first
+//! fault. The layer above uses the contract of `elaborate`, in the words of `ras_names`.
 #![tactic(auto)]
 
+mod cases;
+mod cycles;
+mod declarations;
+mod declared;
+mod elaborating;
+mod fault;
+mod formulas;
+mod goals;
 pub mod law;
+mod name_set;
+mod scope;
+mod steps;
+mod table;
+mod terms;
+mod updates;
+
+pub use elaborating::{Spec, elaborate};
+pub use fault::SpecError;
+
+#[cfg(test)]
+mod tests;

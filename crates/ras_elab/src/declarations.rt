@@ -1,0 +1,363 @@
+ghost use Rattle.std.specs.Prelude.{◌≡◌, ℕ, ◌≤◌, [], ◌∷◌, ◌++◌, true, false, length, map, option_map, All, IfOk, OnOk};
+ghost use Rattle.ras_logic.specs.Schemas.{HasSorts, IsSort};
+ghost use Rattle.ras_names.specs.Placed as placed;
+ghost use Rattle.ras_names.specs.Placed.{columns};
+ghost use Rattle.ras_names.specs.Checks.{for_each, is_among, texts, declared_texts, declared_checks, used_check};
+ghost use Rattle.ras_names.specs.TermChecks.{function_texts};
+ghost use Rattle.ras_names.specs.StepChecks.{variable_texts, relation_texts};
+ghost use Rattle.ras_names.specs.FileChecks.{sort_checks, above_functions, function_checks, above_constants, constant_checks, above_variables, initial_checks, variable_checks, above_relations, column_checks, relation_checks, above_steps};
+ghost use Rattle.ras_numbering.specs.Numbers.{number_in, sort_named, declared_sort, constant_of_name};
+ghost use Rattle.ras_numbering.specs.FileValues.{function_value, variable_value, initial_value, relation_value};
+ghost use Rattle.ras_elab.specs.Placing.{placed_name, placed_function, placed_initial, placed_variable, placed_column, placed_relation, placed_file};
+ghost use Rattle.ras_elab.specs.Answering.{Answers};
+ghost use Rattle.ras_elab.specs.Agreeing.{Agrees, IsSortText, IsOfSort, HasSortTexts, names_of_columns, sorts_of_columns};
+ghost use Rattle.ras_elab.specs.Declaring.{AreAbove, AreConstants, IsOfSortText, AreOfSort, declaration_checks};
+
+use crate::cycles::leads;
+use crate::declared::{Declared, check_name, find_sort};
+use crate::fault::{SpecError, fault};
+use crate::name_set::NameSet;
+use crate::table::Table;
+use ras_logic::{ConstId, FunDecl, FunId, List, SortId};
+use ras_names::SpecKind;
+use ras_syntax::{Column, File, Function, Initial, Name, Relation, Totality, Variable};
+use std::alloc::Global;
+
+/// The sorts of a file, at most 64.
+fn read_sorts(alloc: Global, shared: &mut NameSet, file: &File) -> Result<NameSet, SpecError>
+    requires { shared.old ≡ [] }
+    ensures checks { let p = placed_file file.now in Answers (for_each (sort_checks p) p.sorts) result }
+    ensures sorts { IfOk result (λ s. s ≡ texts (placed_file file.now).sorts) }
+    ensures few { IfOk result (λ s. length s ≤ 64) }
+    ensures shared { OnOk result (shared.new ≡ above_functions (placed_file file.now)) }
+{
+    let mut read = NameSet::new(alloc);
+    for sort in &file.sorts {
+        let name = &sort.name;
+        check_name(shared, 64, read.len(), name)?;
+        shared.add(name.text)?;
+        read.add(name.text)?;
+    }
+    Ok(read)
+}
+
+/// What a function declares: a new name, sorts, and no cycle with the functions above.
+fn read_function(
+    shared: &NameSet,
+    sorts: &NameSet,
+    above: &Table<FunDecl>,
+    function: &Function,
+) -> Result<FunDecl, SpecError>
+    requires few { length sorts.now ≤ 64 }
+    requires known { All (HasSorts 64) above.now.values.items }
+    ensures checks { (p : placed.File) (n : ℕ) → AreAbove p n shared.now sorts.now above.now → Answers (function_checks p n (placed_function function.now)) result }
+    ensures value { (p : placed.File) → sorts.now ≡ texts p.sorts → IfOk result (λ d. d ≡ function_value p (placed_function function.now)) }
+    ensures sorts { (p : placed.File) → sorts.now ≡ texts p.sorts → IfOk result (λ d. HasSortTexts p (placed_function function.now)) }
+    ensures known { IfOk result (HasSorts 64) }
+    ensures new { OnOk result (is_among shared.now function.now.name.text ≡ false) }
+{
+    let name = &function.name;
+    check_name(shared, 256, above.names().len(), name)?;
+    let source = find_sort(sorts, &function.source)?;
+    let target = find_sort(sorts, &function.target)?;
+    if leads(above.values(), sorts.count(), target, source) {
+        let function = FunId {
+            n: above.names().count(),
+        };
+        return fault(name.at, SpecKind::Cycle { function });
+    }
+    Ok(FunDecl {
+        source,
+        target,
+        total: function.totality == Totality::Total,
+    })
+}
+
+/// The functions of a file, at most 256.
+fn read_functions(
+    alloc: Global,
+    shared: &mut NameSet,
+    sorts: &NameSet,
+    file: &File,
+) -> Result<Table<FunDecl>, SpecError>
+    requires few { length sorts.now ≤ 64 }
+    requires sorts { sorts.now ≡ texts (placed_file file.now).sorts }
+    requires shared { shared.old ≡ above_functions (placed_file file.now) }
+    ensures checks { let p = placed_file file.now in Answers (for_each (function_checks p) p.functions) result }
+    ensures names { IfOk result (λ t. t.names ≡ function_texts (placed_file file.now).functions) }
+    ensures values { let p = placed_file file.now in IfOk result (λ t. t.values.items ≡ map (function_value p) p.functions) }
+    ensures sorts { let p = placed_file file.now in OnOk result (All (HasSortTexts p) p.functions) }
+    ensures shared { OnOk result (shared.new ≡ above_constants (placed_file file.now)) }
+{
+    let mut read = Table::new(alloc);
+    for function in &file.functions {
+        let decl = read_function(shared, sorts, &read, function)?;
+        shared.add(function.name.text)?;
+        read.add(function.name.text, decl)?;
+    }
+    Ok(read)
+}
+
+/// The sort behind the colon of a name, which is the next of its kind.
+pub(crate) fn read_sorted(
+    names: &NameSet,
+    sorts: &NameSet,
+    limit: usize,
+    count: usize,
+    name: &Name,
+    sort: &Name,
+) -> Result<SortId, SpecError>
+    ensures checks { Answers (declared_checks limit count names.now (placed_name name.now) ++ used_check sorts.now (placed_name sort.now) ∷ []) result }
+    ensures value { IfOk result (λ s. s ≡ record { n = number_in sorts.now sort.now.text }) }
+    ensures known { OnOk result (is_among sorts.now sort.now.text ≡ true) }
+    ensures new { OnOk result (is_among names.now name.now.text ≡ false) }
+{
+    check_name(names, limit, count, name)?;
+    find_sort(sorts, sort)
+}
+
+/// The constants of a file, at most 256.
+fn read_constants(
+    alloc: Global,
+    shared: &mut NameSet,
+    sorts: &NameSet,
+    file: &File,
+) -> Result<Table<SortId>, SpecError>
+    requires sorts { sorts.now ≡ texts (placed_file file.now).sorts }
+    requires shared { shared.old ≡ above_constants (placed_file file.now) }
+    ensures checks { let p = placed_file file.now in Answers (for_each (constant_checks p) p.constants) result }
+    ensures names { IfOk result (λ t. t.names ≡ declared_texts (placed_file file.now).constants) }
+    ensures values { let p = placed_file file.now in IfOk result (λ t. t.values.items ≡ map (declared_sort p) p.constants) }
+    ensures sorts { let p = placed_file file.now in OnOk result (All (IsOfSort p) p.constants) }
+    ensures shared { OnOk result (shared.new ≡ above_variables (placed_file file.now)) }
+{
+    let mut read = Table::new(alloc);
+    for constant in &file.constants {
+        let name = &constant.name;
+        let sort = read_sorted(shared, sorts, 256, read.names().len(), name, &constant.sort)?;
+        shared.add(name.text)?;
+        read.add(name.text, sort)?;
+    }
+    Ok(read)
+}
+
+/// The initial constant of a variable of a sort, if one is named.
+fn read_initial(
+    constants: &Table<SortId>,
+    sort: SortId,
+    initial: &Option<Initial>,
+) -> Result<Option<ConstId>, SpecError>
+    ensures checks { (p : placed.File) (of : placed.Name) → AreConstants p constants.now → IsSortText p of.text → sort ≡ sort_named p of.text
+        → Answers (initial_checks p of (option_map placed_initial initial.now)) result }
+    ensures value { (p : placed.File) → constants.now.names ≡ declared_texts p.constants
+        → IfOk result (λ c. c ≡ option_map (λ (i : placed.Initial). constant_of_name p i.constant) (option_map placed_initial initial.now)) }
+{
+    let initial = match initial {
+        Some(initial) => initial,
+        None => return Ok(None),
+    };
+    match constants.find(&initial.constant.text) {
+        None => fault(initial.constant.at, SpecKind::UnknownName),
+        Some((n, own)) => {
+            if own != sort {
+                return fault(initial.at, SpecKind::WrongSort);
+            }
+            Ok(Some(ConstId { n }))
+        }
+    }
+}
+
+/// What a variable declares: a new name, its sort, and its initial constant if one is named.
+fn read_variable(
+    shared: &NameSet,
+    sorts: &NameSet,
+    constants: &Table<SortId>,
+    count: usize,
+    variable: &Variable,
+) -> Result<(SortId, Option<ConstId>), SpecError>
+    ensures checks { (p : placed.File) → sorts.now ≡ texts p.sorts → AreConstants p constants.now
+        → Answers (declared_checks 64 count shared.now (placed_name variable.now.name) ++ (used_check (texts p.sorts) (placed_name variable.now.sort) ∷ initial_checks p (placed_name variable.now.sort) (option_map placed_initial variable.now.initial))) result }
+    ensures sort { (p : placed.File) → sorts.now ≡ texts p.sorts → IfOk result (λ v. v.0 ≡ variable_value p (placed_variable variable.now)) }
+    ensures initial { (p : placed.File) → constants.now.names ≡ declared_texts p.constants → IfOk result (λ v. v.1 ≡ initial_value p (placed_variable variable.now)) }
+    ensures known { OnOk result (is_among sorts.now variable.now.sort.text ≡ true) }
+    ensures new { OnOk result (is_among shared.now variable.now.name.text ≡ false) }
+{
+    let sort = read_sorted(shared, sorts, 64, count, &variable.name, &variable.sort)?;
+    let initial = read_initial(constants, sort, &variable.initial)?;
+    Ok((sort, initial))
+}
+
+/// The variables of a file, and the initial constant of each that has one.
+#[derive(Drop)]
+struct Variables {
+    table: Table<SortId>,
+    initial: List<Option<ConstId>>,
+}
+
+/// The variables of a file, at most 64.
+fn read_variables(
+    alloc: Global,
+    shared: &mut NameSet,
+    sorts: &NameSet,
+    constants: &Table<SortId>,
+    file: &File,
+) -> Result<Variables, SpecError>
+    requires sorts { sorts.now ≡ texts (placed_file file.now).sorts }
+    requires constants { AreConstants (placed_file file.now) constants.now }
+    requires shared { shared.old ≡ above_variables (placed_file file.now) }
+    ensures checks { let p = placed_file file.now in Answers (for_each (variable_checks p) p.variables) result }
+    ensures names { IfOk result (λ v. v.table.names ≡ variable_texts (placed_file file.now)) }
+    ensures values { let p = placed_file file.now in IfOk result (λ v. v.table.values.items ≡ map (variable_value p) p.variables) }
+    ensures initial { let p = placed_file file.now in IfOk result (λ v. v.initial ≡ map (initial_value p) p.variables) }
+    ensures sorts { let p = placed_file file.now in OnOk result (All (IsOfSortText p) p.variables) }
+    ensures shared { OnOk result (shared.new ≡ above_relations (placed_file file.now)) }
+{
+    let mut table = Table::new(alloc);
+    let mut all = List::new(alloc);
+    for variable in &file.variables {
+        let (sort, initial) = read_variable(
+            shared,
+            sorts,
+            constants,
+            table.names().len(),
+            variable,
+        )?;
+        shared.add(variable.name.text)?;
+        table.add(variable.name.text, sort)?;
+        all.push(initial)?;
+    }
+    Ok(Variables {
+        table,
+        initial: all,
+    })
+}
+
+/// One column more of a relation, which has at most 32.
+fn add_column(
+    sorts: &NameSet,
+    columns: &mut Table<SortId>,
+    column: &Column,
+) -> Result<(), SpecError>
+    ensures checks { Answers (declared_checks 32 (length columns.old.names) columns.old.names (placed_name column.now.name) ++ used_check sorts.now (placed_name column.now.sort) ∷ []) result }
+    ensures names { OnOk result (columns.new.names ≡ columns.old.names ++ column.now.name.text ∷ []) }
+    ensures values { OnOk result (columns.new.values.items ≡ columns.old.values.items ++ record { n = number_in sorts.now column.now.sort.text } ∷ []) }
+    ensures known { OnOk result (is_among sorts.now column.now.sort.text ≡ true) }
+{
+    let sort = read_sorted(
+        columns.names(),
+        sorts,
+        32,
+        columns.names().len(),
+        &column.name,
+        &column.sort,
+    )?;
+    columns.add(column.name.text, sort)?;
+    Ok(())
+}
+
+/// The columns of a relation.
+fn read_columns(
+    alloc: Global,
+    sorts: &NameSet,
+    relation: &Relation,
+) -> Result<Table<SortId>, SpecError>
+    ensures checks { (p : placed.File) → sorts.now ≡ texts p.sorts
+        → let all = columns (placed_relation relation.now) in Answers (for_each (column_checks p all) all) result }
+    ensures names { IfOk result (λ t. t.names ≡ declared_texts (columns (placed_relation relation.now))) }
+    ensures values { (p : placed.File) → sorts.now ≡ texts p.sorts → IfOk result (λ t. t.values.items ≡ relation_value p (placed_relation relation.now)) }
+    ensures sorts { (p : placed.File) → sorts.now ≡ texts p.sorts → OnOk result (All (IsOfSort p) (columns (placed_relation relation.now))) }
+{
+    let mut columns = Table::new(alloc);
+    add_column(sorts, &mut columns, &relation.first)?;
+    for other in &relation.others {
+        add_column(sorts, &mut columns, &other.column)?;
+    }
+    Ok(columns)
+}
+
+/// What a relation declares: a new name, and its columns.
+fn read_relation(
+    alloc: Global,
+    shared: &NameSet,
+    sorts: &NameSet,
+    count: usize,
+    relation: &Relation,
+) -> Result<Table<SortId>, SpecError>
+    ensures checks { (p : placed.File) → sorts.now ≡ texts p.sorts → let all = columns (placed_relation relation.now) in
+        Answers (declared_checks 16 count shared.now (placed_name relation.now.name) ++ for_each (column_checks p all) all) result }
+    ensures names { IfOk result (λ t. t.names ≡ declared_texts (columns (placed_relation relation.now))) }
+    ensures values { (p : placed.File) → sorts.now ≡ texts p.sorts → IfOk result (λ t. t.values.items ≡ relation_value p (placed_relation relation.now)) }
+    ensures sorts { (p : placed.File) → sorts.now ≡ texts p.sorts → OnOk result (All (IsOfSort p) (columns (placed_relation relation.now))) }
+    ensures new { OnOk result (is_among shared.now relation.now.name.text ≡ false) }
+{
+    check_name(shared, 16, count, &relation.name)?;
+    read_columns(alloc, sorts, relation)
+}
+
+/// The names of the relations of a file, and the columns of each.
+#[derive(Drop)]
+struct Relations {
+    names: NameSet,
+    columns: Vec<Table<SortId>>,
+}
+
+/// The relations of a file, at most 16.
+fn read_relations(
+    alloc: Global,
+    shared: &mut NameSet,
+    sorts: &NameSet,
+    file: &File,
+) -> Result<Relations, SpecError>
+    requires sorts { sorts.now ≡ texts (placed_file file.now).sorts }
+    requires shared { shared.old ≡ above_relations (placed_file file.now) }
+    ensures checks { let p = placed_file file.now in Answers (for_each (relation_checks p) p.relations) result }
+    ensures names { IfOk result (λ r. r.names ≡ relation_texts (placed_file file.now)) }
+    ensures columns { let p = placed_file file.now in IfOk result (λ r. names_of_columns r.columns.items ≡ map (λ (q : placed.Relation). declared_texts (columns q)) p.relations) }
+    ensures values { let p = placed_file file.now in IfOk result (λ r. sorts_of_columns r.columns.items ≡ map (relation_value p) p.relations) }
+    ensures sorts { let p = placed_file file.now in OnOk result (All (AreOfSort p) p.relations) }
+    ensures shared { OnOk result (shared.new ≡ above_steps (placed_file file.now)) }
+{
+    let mut names = NameSet::new(alloc);
+    let mut columns = Vec::new(alloc);
+    for relation in &file.relations {
+        let table = read_relation(alloc, shared, sorts, names.len(), relation)?;
+        shared.add(relation.name.text)?;
+        names.add(relation.name.text)?;
+        columns.push(table)?;
+    }
+    Ok(Relations { names, columns })
+}
+
+/// What the items above the steps declare, and the initial constants of the variables.
+#[derive(Drop)]
+pub(crate) struct Declarations {
+    pub(crate) declared: Declared,
+    pub(crate) initial: List<Option<ConstId>>,
+}
+
+/// The items of a file above the steps.
+pub(crate) fn read_declarations(alloc: Global, file: &File) -> Result<Declarations, SpecError>
+    ensures checks { Answers (declaration_checks (placed_file file.now)) result }
+    ensures agrees { IfOk result (λ d. Agrees (placed_file file.now) d.declared) }
+    ensures shared { IfOk result (λ d. d.declared.shared ≡ above_steps (placed_file file.now)) }
+    ensures initial { let p = placed_file file.now in IfOk result (λ d. d.initial ≡ map (initial_value p) p.variables) }
+{
+    let mut shared = NameSet::new(alloc);
+    let sorts = read_sorts(alloc, &mut shared, file)?;
+    let functions = read_functions(alloc, &mut shared, &sorts, file)?;
+    let constants = read_constants(alloc, &mut shared, &sorts, file)?;
+    let vars = read_variables(alloc, &mut shared, &sorts, &constants, file)?;
+    let relations = read_relations(alloc, &mut shared, &sorts, file)?;
+    Ok(Declarations {
+        declared: Declared {
+            shared,
+            sorts,
+            functions,
+            constants,
+            vars: vars.table,
+            relations: relations.names,
+            columns: relations.columns,
+        },
+        initial: vars.initial,
+    })
+}

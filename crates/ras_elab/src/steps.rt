@@ -1,0 +1,277 @@
+ghost use Rattle.std.specs.Prelude.{◌≡◌, ℕ, [], ◌∷◌, ◌++◌, None, true, false, length, map, All, IfOk, OnOk};
+ghost use Rattle.ras_names.specs.Placed as placed;
+ghost use Rattle.ras_names.specs.Unplaced.{step_of};
+ghost use Rattle.ras_names.specs.FileNames.{names_of_step};
+ghost use Rattle.ras_names.specs.Checks.{for_each, is_among, texts, declared_texts, declared_checks, used_check};
+ghost use Rattle.ras_names.specs.TermChecks as checks;
+ghost use Rattle.ras_names.specs.StepChecks.{relation_texts, row_checks, param_checks, inside_checks};
+ghost use Rattle.ras_names.specs.FileChecks.{above_step, above_steps, step_checks};
+ghost use Rattle.ras_numbering.specs.Numbers.{number_in, declared_sort, declared_relation};
+ghost use Rattle.ras_numbering.specs.TermValues.{guard_value};
+ghost use Rattle.ras_numbering.specs.FileValues.{update_value, cases_value, step_value};
+ghost use Rattle.ras_elab.specs.Placing.{placed_name, placed_row, placed_param, placed_guard, placed_update, placed_each, placed_step, placed_file};
+ghost use Rattle.ras_elab.specs.Answering.{Answers};
+ghost use Rattle.ras_elab.specs.Agreeing.{Agrees, IsSortText, IsRelationText, IsOfSort};
+ghost use Rattle.ras_elab.specs.Seeing.{Sees, step_texts};
+ghost use Rattle.ras_elab.specs.Bodies.{IsOfRelation, body_checks};
+
+use crate::cases::{Cases, read_eachs};
+use crate::declared::{Declared, check_name, find_sort};
+use crate::fault::{SpecError, fault};
+use crate::formulas::read_guard;
+use crate::name_set::NameSet;
+use crate::scope::Scope;
+use crate::table::Table;
+use crate::updates::read_updates;
+use ras_lexer::Text;
+use ras_logic::{List, Literal, RelId, Rows, SortId};
+use ras_names::{SpecKind, StepNames};
+use ras_syntax as tree;
+use ras_system::{Transition, Update};
+use std::alloc::{AllocError, Global};
+
+/// A name is the next of its kind, of which there are `count` above: it is within the limit, and in neither set.
+fn check_inner(
+    shared: &NameSet,
+    own: &NameSet,
+    limit: usize,
+    count: usize,
+    name: &tree::Name,
+) -> Result<(), SpecError>
+    ensures { Answers (declared_checks limit count (shared.now ++ own.now) (placed_name name.now)) result }
+{
+    check_name(shared, limit, count, name)?;
+    if own.has(&name.text) {
+        return fault(name.at, SpecKind::DuplicateName);
+    }
+    Ok(())
+}
+
+/// The relation of a row with a new name.
+fn read_row(declared: &Declared, rows: &NameSet, row: &tree::Row) -> Result<RelId, SpecError>
+    ensures checks { Answers (declared_checks 8 (length rows.now) (declared.now.shared ++ rows.now) (placed_name row.now.name) ++ used_check declared.now.relations (placed_name row.now.relation) ∷ []) result }
+    ensures value { IfOk result (λ r. r ≡ record { n = number_in declared.now.relations row.now.relation.text }) }
+    ensures known { OnOk result (is_among declared.now.relations row.now.relation.text ≡ true) }
+    ensures new { OnOk result (is_among rows.now row.now.name.text ≡ false) }
+{
+    check_inner(&declared.shared, rows, 8, rows.len(), &row.name)?;
+    declared.relation(&row.relation)
+}
+
+/// The rows of a step or of an unsafe item, at most 8.
+pub(crate) fn read_rows(
+    alloc: Global,
+    declared: &Declared,
+    rows: &[tree::Row],
+) -> Result<Table<RelId>, SpecError>
+    ensures checks { (p : placed.File) → declared.now.relations ≡ relation_texts p
+        → Answers (for_each (row_checks p declared.now.shared (map placed_row rows.now)) (map placed_row rows.now)) result }
+    ensures names { IfOk result (λ t. t.names ≡ declared_texts (map placed_row rows.now)) }
+    ensures values { (p : placed.File) → declared.now.relations ≡ relation_texts p → IfOk result (λ t. t.values.items ≡ map (declared_relation p) (map placed_row rows.now)) }
+    ensures known { (p : placed.File) → declared.now.relations ≡ relation_texts p → OnOk result (All (IsOfRelation p) (map placed_row rows.now)) }
+{
+    let mut table = Table::new(alloc);
+    for row in rows {
+        let relation = read_row(declared, table.names(), row)?;
+        table.add(row.name.text, relation)?;
+    }
+    Ok(table)
+}
+
+/// The name of a data parameter is the next of at most 16: it is not among the shared names, the rows and the parameters
+/// above.
+fn check_param(
+    shared: &NameSet,
+    rows: &NameSet,
+    params: &NameSet,
+    name: &tree::Name,
+) -> Result<(), SpecError>
+    ensures { Answers (declared_checks 16 (length params.now) ((shared.now ++ rows.now) ++ params.now) (placed_name name.now)) result }
+{
+    check_inner(shared, rows, 16, params.len(), name)?;
+    if params.has(&name.text) {
+        return fault(name.at, SpecKind::DuplicateName);
+    }
+    Ok(())
+}
+
+/// The sort of a data parameter with a new name.
+fn read_param(
+    declared: &Declared,
+    rows: &NameSet,
+    params: &NameSet,
+    param: &tree::Param,
+) -> Result<SortId, SpecError>
+    ensures checks { Answers (declared_checks 16 (length params.now) ((declared.now.shared ++ rows.now) ++ params.now) (placed_name param.now.name) ++ used_check declared.now.sorts (placed_name param.now.sort) ∷ []) result }
+    ensures value { IfOk result (λ s. s ≡ record { n = number_in declared.now.sorts param.now.sort.text }) }
+    ensures known { OnOk result (is_among declared.now.sorts param.now.sort.text ≡ true) }
+    ensures new { OnOk result (is_among params.now param.now.name.text ≡ false) }
+{
+    check_param(&declared.shared, rows, params, &param.name)?;
+    find_sort(&declared.sorts, &param.sort)
+}
+
+/// The data parameters of a step, at most 16.
+fn read_params(
+    alloc: Global,
+    declared: &Declared,
+    rows: &NameSet,
+    params: &[tree::Param],
+) -> Result<Table<SortId>, SpecError>
+    ensures checks { (p : placed.File) → declared.now.sorts ≡ texts p.sorts
+        → Answers (for_each (param_checks p (declared.now.shared ++ rows.now) (map placed_param params.now)) (map placed_param params.now)) result }
+    ensures names { IfOk result (λ t. t.names ≡ declared_texts (map placed_param params.now)) }
+    ensures values { (p : placed.File) → declared.now.sorts ≡ texts p.sorts → IfOk result (λ t. t.values.items ≡ map (declared_sort p) (map placed_param params.now)) }
+    ensures known { (p : placed.File) → declared.now.sorts ≡ texts p.sorts → OnOk result (All (IsOfSort p) (map placed_param params.now)) }
+{
+    let mut table = Table::new(alloc);
+    for param in params {
+        let sort = read_param(declared, rows, table.names(), param)?;
+        table.add(param.name.text, sort)?;
+    }
+    Ok(table)
+}
+
+/// The rows of a list that has few.
+pub(crate) fn few_rows(alloc: Global, relations: &[RelId]) -> Result<Rows, AllocError>
+    ensures { IfOk result (λ rows. rows ≡ relations.now) }
+{
+    let mut rows = Rows::new(alloc);
+    for relation in relations {
+        rows.push(*relation)?;
+    }
+    Ok(rows)
+}
+
+/// What a step says behind its rows and data parameters.
+#[derive(Drop)]
+struct Body {
+    guard: List<List<Literal>>,
+    updates: List<Update>,
+    cases: Cases,
+}
+
+/// The guard, the updates and the cases of a step.
+fn read_body(alloc: Global, scope: &Scope, step: &tree::Step) -> Result<Body, SpecError>
+    requires { scope.now.each ≡ None }
+    ensures checks { (seen : checks.Scope) → Sees scope.now seen → Answers (body_checks seen (step_texts scope.now) (placed_step step.now)) result }
+    ensures guard { (seen : checks.Scope) → Sees scope.now seen → IfOk result (λ b. b.guard ≡ guard_value seen (placed_guard step.now.guard)) }
+    ensures updates { (seen : checks.Scope) → Sees scope.now seen → IfOk result (λ b. b.updates ≡ map (update_value seen) (map placed_update step.now.updates.items)) }
+    ensures bulk { (seen : checks.Scope) → Sees scope.now seen → IfOk result (λ b. b.cases.bulk ≡ cases_value seen (map placed_each step.now.eachs.items)) }
+    ensures rows { IfOk result (λ b. b.cases.rows ≡ map (λ (e : placed.Each). e.row.text) (map placed_each step.now.eachs.items)) }
+{
+    let guard = read_guard(alloc, scope, 0, &step.guard)?;
+    let updates = read_updates(alloc, scope, step.updates.as_slice())?;
+    let cases = read_eachs(alloc, scope, step.eachs.as_slice())?;
+    Ok(Body {
+        guard,
+        updates,
+        cases,
+    })
+}
+
+/// What a step says, and the names in it.
+#[derive(Drop)]
+pub(crate) struct ReadStep {
+    pub(crate) transition: Transition,
+    pub(crate) names: StepNames,
+}
+
+/// A step with its parts put together.
+fn join_step(
+    alloc: Global,
+    name: Text,
+    rows: Table<RelId>,
+    params: Table<SortId>,
+    body: Body,
+) -> Result<ReadStep, AllocError>
+    ensures transition { IfOk result (λ s. s.transition ≡ record { rows = rows.values.items; params = params.values.items; guard = body.guard; updates = body.updates; bulk = body.cases.bulk }) }
+    ensures names { IfOk result (λ s. s.names ≡ record { name = name; rows = rows.names; params = params.names; each = body.cases.rows }) }
+{
+    let (row_names, relations) = rows.parts(alloc)?;
+    let (param_names, sorts) = params.parts(alloc)?;
+    let rows = few_rows(alloc, relations.as_slice())?;
+    Ok(ReadStep {
+        transition: Transition {
+            rows,
+            params: sorts,
+            guard: body.guard,
+            updates: body.updates,
+            bulk: body.cases.bulk,
+        },
+        names: StepNames {
+            name,
+            rows: row_names,
+            params: param_names,
+            each: body.cases.rows,
+        },
+    })
+}
+
+/// The inside of a step, whose name is among the shared ones.
+fn read_inside(alloc: Global, declared: &Declared, step: &tree::Step) -> Result<ReadStep, SpecError>
+    ensures checks { (p : placed.File) → Agrees p declared.now → Answers (inside_checks p declared.now.shared (placed_step step.now)) result }
+    ensures value { (p : placed.File) → Agrees p declared.now → IfOk result (λ s. s.transition ≡ step_value p (placed_step step.now)) }
+    ensures names { IfOk result (λ s. s.names ≡ names_of_step (step_of (placed_step step.now))) }
+{
+    let rows = read_rows(alloc, declared, step.rows.as_slice())?;
+    let params = read_params(alloc, declared, rows.names(), step.params.as_slice())?;
+    let scope = Scope {
+        declared,
+        rows: &rows,
+        params: &params,
+        each: None,
+    };
+    let body = read_body(alloc, &scope, step)?;
+    let read = join_step(alloc, step.name.text, rows, params, body)?;
+    Ok(read)
+}
+
+/// The steps of a file, and their names.
+#[derive(Drop)]
+pub(crate) struct Steps {
+    pub(crate) transitions: List<Transition>,
+    pub(crate) names: List<StepNames>,
+}
+
+/// One step, of which there are `count` above, with its name among the shared ones.
+fn read_step(
+    alloc: Global,
+    declared: &mut Declared,
+    count: usize,
+    step: &tree::Step,
+) -> Result<ReadStep, SpecError>
+    ensures checks { (p : placed.File) → Agrees p declared.old
+        → let s = placed_step step.now in Answers (declared_checks 256 count declared.old.shared s.name ++ inside_checks p (declared.old.shared ++ s.name.text ∷ []) s) result }
+    ensures value { (p : placed.File) → Agrees p declared.old → IfOk result (λ s. s.transition ≡ step_value p (placed_step step.now)) }
+    ensures names { IfOk result (λ s. s.names ≡ names_of_step (step_of (placed_step step.now))) }
+    ensures shared { OnOk result (declared.new ≡ record declared.old { shared = declared.old.shared ++ step.now.name.text ∷ [] }) }
+{
+    check_name(&declared.shared, 256, count, &step.name)?;
+    declared.shared.add(step.name.text)?;
+    read_inside(alloc, declared, step)
+}
+
+/// The steps of a file, at most 256.
+pub(crate) fn read_steps(
+    alloc: Global,
+    declared: &mut Declared,
+    file: &tree::File,
+) -> Result<Steps, SpecError>
+    requires agrees { Agrees (placed_file file.now) declared.old }
+    requires shared { declared.old.shared ≡ above_steps (placed_file file.now) }
+    ensures checks { let p = placed_file file.now in Answers (for_each (step_checks p) p.steps) result }
+    ensures transitions { let p = placed_file file.now in IfOk result (λ s. s.transitions ≡ map (step_value p) p.steps) }
+    ensures names { let p = placed_file file.now in IfOk result (λ s. s.names ≡ map names_of_step (map step_of p.steps)) }
+    ensures shared { let p = placed_file file.now in OnOk result (declared.new.shared ≡ above_step p (length p.steps)) }
+    ensures agrees { OnOk result (Agrees (placed_file file.now) declared.new) }
+{
+    let mut transitions = List::new(alloc);
+    let mut names: List<StepNames> = List::new(alloc);
+    for step in &file.steps {
+        let read = read_step(alloc, declared, names.len(), step)?;
+        transitions.push(read.transition)?;
+        names.push(read.names)?;
+    }
+    Ok(Steps { transitions, names })
+}
