@@ -2,12 +2,19 @@
 use Rattle.std.specs.Prelude.{◌≡◌, ℕ, ◌-◌, ◌^◌, ◌≤◌, ◌⊎◌, List, [], ◌∷◌, ◌++◌, length, codes}
 use Rattle.ras_outside.specs.Count.{Rose}
 use Rattle.ras_outside.specs.Told.{Told, holds, IsTold, HoldsMoreThan}
+use Rattle.ras_evidence.specs.Bundles.{DenotesNoSystem, HasNoEvidence, HasOtherEvidence}
+use Rattle.ras_file.specs.declared.fault.FileFault.{FileFault}
+use Rattle.ras_file.specs.FileFaults.{IsFileFault}
+use Rattle.ras_file.specs.Refusals.{refusal_text}
+use Rattle.ras_cli.specs.declared.words.Command.{Command}
+use Rattle.ras_cli.specs.declared.words.Command.TheVariants.{Check, Print}
 use Rattle.ras_cli.specs.declared.outcome.Outcome.{Outcome}
-use Rattle.ras_cli.specs.declared.outcome.Outcome.TheVariants.{Judged, TooLong, NotRead, NoCommand}
+use Rattle.ras_cli.specs.declared.outcome.Outcome.TheVariants.{Judged, Printed, Refused, TooLong, NotRead, NoCommand}
 use Rattle.ras_cli.specs.declared.judgement.Judgement.{Judgement}
 use Rattle.ras_cli.specs.declared.judgement.Judgement.TheVariants.{Valid, Invalid, Unbuilt, NoEvidence, NoSystem}
-use Rattle.ras_cli.specs.Judgements.{IsJudged}
-use Rattle.ras_cli.specs.Words.{IsCheck, IsNoCommand}
+use Rattle.ras_cli.specs.Judgements.{IsJudged, IsValidBundle, IsInvalidBundle}
+use Rattle.ras_cli.specs.Printing.{IsPrinted}
+use Rattle.ras_cli.specs.Words.{Asks, IsNoCommand}
 
 abbrev pub judgement_status : Judgement → ℕ
 judgement_status Valid = 0
@@ -18,6 +25,8 @@ judgement_status Invalid = 31
 
 abbrev pub status_of : Outcome → ℕ
 status_of (Judged judgement) = judgement_status judgement
+status_of (Printed text) = 0
+status_of (Refused f) = 30
 status_of (TooLong name) = 32
 status_of NoCommand = 40
 status_of (NotRead name) = 50
@@ -35,47 +44,92 @@ judgement_text Invalid = line (codes "INVALID")
 
 abbrev pub text_of : Outcome → List ℕ
 text_of (Judged judgement) = judgement_text judgement
+text_of (Printed text) = text.items
+text_of (Refused f) = refusal_text f
 text_of (TooLong name) = codes "REFUSED long " ++ line name.now
 text_of (NotRead name) = codes "REFUSED read " ++ line name.now
-text_of NoCommand = line (codes "REFUSED words") ++ (line (codes "usage:") ++ line (codes "  rasprove check BUNDLE"))
+text_of NoCommand = line (codes "REFUSED words") ++ (line (codes "usage:") ++ (line (codes "  rasprove check BUNDLE") ++ line (codes "  rasprove print FILE")))
 
--- the length of the longest file that is loaded
-abbrev pub most : ℕ
-most = 2 ^ 63 - 1
+-- the length of the longest file that is loaded: a bundle is as long as any `Vec<u8>`, a specification is shorter
+abbrev pub longest : Command → ℕ
+longest Check = 2 ^ 63 - 1
+longest Print = 1048576
+
+-- what a file of these bytes comes to
+abbrev pub ComesTo : Command → List ℕ → Outcome → Type 0
+ComesTo Check bytes (Judged judgement) = IsJudged bytes judgement
+ComesTo Print bytes (Printed text) = IsPrinted bytes text.items
+ComesTo Print bytes (Refused f) = IsFileFault bytes f
+ComesTo command bytes outcome = ⊥
+
+-- the command of which such an outcome comes, whatever the file is
+abbrev pub IsOf : Outcome → Command → Type 0
+IsOf (Judged judgement) Check = Unit {0}
+IsOf (Printed text) Print = Unit {0}
+IsOf (Refused f) Print = Unit {0}
+IsOf outcome command = ⊥
+
+abbrev pub AnyCommand : Command → Type 0
+AnyCommand command = Unit {0}
+
+abbrev pub CheckAlone : Command → Type 0
+CheckAlone command = command ≡ Check
 
 -- where the shelf tells of the file, it is no longer than is loaded, and its bytes are so
-abbrev pub IsLoaded : Told → (List ℕ → Type 0) → Type 0
-IsLoaded told P = IsTold told → (content : List ℕ) × (told ≡ holds content) × (length content ≤ most) × P content
+abbrev pub IsLoaded : Told → ℕ → (List ℕ → Type 0) → Type 0
+IsLoaded told most P = IsTold told → (content : List ℕ) × (told ≡ holds content) × (length content ≤ most) × P content
 
--- `check` of a file whose bytes are so
-pub record ChecksFile (words : List (List ℕ)) (told : List ℕ → Told) (P : List ℕ → Type 0) : Type 0 where
+-- the words ask for such a command, of a file whose bytes are so
+pub record Loads (words : List (List ℕ)) (told : List ℕ → Told) (IsSuch : Command → Type 0) (P : Command → List ℕ → Type 0) : Type 0 where
+  pub command : Command
+  pub such : IsSuch command
   pub name : List ℕ
-  pub check : IsCheck words name
-  pub loaded : IsLoaded (told name) P
+  pub asks : Asks words command name
+  pub loaded : IsLoaded (told name) (longest command) (P command)
 
 -- the words name a file, and where the shelf tells of it, it is longer than is loaded
-abbrev pub IsTooLong : List (List ℕ) → (List ℕ → Told) → List ℕ → Type 0
-IsTooLong words told name = IsCheck words name × (IsTold (told name) → HoldsMoreThan (told name) most)
+pub record IsTooLong (words : List (List ℕ)) (told : List ℕ → Told) (name : List ℕ) : Type 0 where
+  pub command : Command
+  pub asks : Asks words command name
+  pub long : IsTold (told name) → HoldsMoreThan (told name) (longest command)
 
 -- the words name a file, and the shelf's count of faults of that name rose
-abbrev pub IsNotRead : List (List ℕ) → (List ℕ → ℕ) → (List ℕ → ℕ) → List ℕ → Type 0
-IsNotRead words before after name = IsCheck words name × Rose (before name) (after name)
+pub record IsNotRead (words : List (List ℕ)) (before after : List ℕ → ℕ) (name : List ℕ) : Type 0 where
+  pub command : Command
+  pub asks : Asks words command name
+  pub rose : Rose (before name) (after name)
 
 -- when an outcome may come: by the words, what the shelf tells, and its counts of faults before and after
 abbrev pub Comes : List (List ℕ) → (List ℕ → Told) → (List ℕ → ℕ) → (List ℕ → ℕ) → Outcome → Type 0
-Comes words told before after (Judged judgement) = ChecksFile words told (λ bytes. IsJudged bytes judgement)
 Comes words told before after (TooLong name) = IsTooLong words told name.now
 Comes words told before after (NotRead name) = IsNotRead words before after name.now
 Comes words told before after NoCommand = IsNoCommand words
+Comes words told before after outcome = Loads words told (IsOf outcome) (λ command bytes. ComesTo command bytes outcome)
 
--- the words name a file, of which the shelf tells that it is so judged
-pub record NamesJudged (words : List (List ℕ)) (told : List ℕ → Told) (judgement : Judgement) : Type 0 where
+-- what a file is that is done with status 0: a bundle with a good evidence, or a specification
+abbrev pub IsDone : Command → List ℕ → Type 0
+IsDone Check bytes = IsValidBundle bytes
+IsDone Print bytes = (text : List ℕ) × IsPrinted bytes text
+
+-- what a file is that denotes no system
+abbrev pub IsNoSystem : Command → List ℕ → Type 0
+IsNoSystem Check bytes = DenotesNoSystem bytes
+IsNoSystem Print bytes = (f : FileFault) × IsFileFault bytes f
+
+-- what a bundle is that is refused for its evidence, or whose evidence is not good
+abbrev pub IsNotGood : Command → List ℕ → Type 0
+IsNotGood Check bytes = HasNoEvidence bytes ⊎ (HasOtherEvidence bytes ⊎ IsInvalidBundle bytes)
+IsNotGood Print bytes = ⊥
+
+-- the words name a file, of which the shelf tells that it comes to this
+pub record ToldToComeTo (words : List (List ℕ)) (told : List ℕ → Told) (outcome : Outcome) : Type 0 where
+  pub command : Command
   pub name : List ℕ
   pub content : List ℕ
-  pub check : IsCheck words name
+  pub asks : Asks words command name
   pub told_is : told name ≡ holds content
-  pub not_long : length content ≤ most
-  pub judged : IsJudged content judgement
+  pub not_long : length content ≤ longest command
+  pub comes : ComesTo command content outcome
 
 -- the statuses of a call that was cut off: by a fault of the sink, or by want of memory
 abbrev pub IsCutOff : ℕ → Type 0

@@ -3,7 +3,9 @@
 #![tactic(auto)]
 
 mod judgement;
+mod law;
 mod outcome;
+mod printing;
 mod putting;
 #[cfg(test)]
 mod tests;

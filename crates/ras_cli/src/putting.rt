@@ -17,6 +17,7 @@ pub fn put_text<K: Sink>(out: &mut K, text: &[u8]) -> Result<(), CutOff>
     ensures whole { OnOk result (K.written out.new ≡ append_known (K.written out.old) text.now) }
     ensures front { OnErr result (PutsFront (K.written out.old) (K.written out.new) text.now) }
     ensures failed { OnErr result (Rose (K.faults out.old) (K.faults out.new)) }
+    ensures stands { OnOk result (K.faults out.new ≡ K.faults out.old) }
 {
     let mut at: usize = 0;
     while at < text.len() {

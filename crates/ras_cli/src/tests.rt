@@ -71,7 +71,7 @@ tree leaf
 end
 ";
 
-const USAGE: &[u8] = b"REFUSED words\nusage:\n  rasprove check BUNDLE\n";
+const USAGE: &[u8] = b"REFUSED words\nusage:\n  rasprove check BUNDLE\n  rasprove print FILE\n";
 
 fn words_of(alloc: Global, words: &[&str]) -> Result<Vec<String>, AllocError> {
     let mut all = Vec::new(alloc);
@@ -90,6 +90,22 @@ fn shelf_of(alloc: Global, content: &[u8], failing: &[u64]) -> Result<MemShelf, 
     Ok(MemShelf::new(vec![in alloc; file]?, Vec::from_slice(alloc, failing)?))
 }
 
+/// Whether the words end so where the file `b` has this content.
+fn ends<R: Threads + Sync>(
+    rt: &R,
+    alloc: Global,
+    words: &[&str],
+    content: &[u8],
+    status: u8,
+    written: &[u8],
+) -> Result<bool, Fail> {
+    let words = words_of(alloc, words)?;
+    let mut shelf = shelf_of(alloc, content, &[])?;
+    let mut out = MemSink::new(alloc, 2_048, Vec::new(alloc))?;
+    let ended = verify_quiet(rt, alloc, &words, &mut shelf, &mut out);
+    Ok(ended == status && out.written() == written)
+}
+
 /// Whether `check b` ends so over a file of this content.
 fn checks<R: Threads + Sync>(
     rt: &R,
@@ -98,11 +114,18 @@ fn checks<R: Threads + Sync>(
     status: u8,
     written: &[u8],
 ) -> Result<bool, Fail> {
-    let words = words_of(alloc, &["check", "b"])?;
-    let mut shelf = shelf_of(alloc, content, &[])?;
-    let mut out = MemSink::new(alloc, 100, Vec::new(alloc))?;
-    let ended = verify_quiet(rt, alloc, &words, &mut shelf, &mut out);
-    Ok(ended == status && out.written() == written)
+    ends(rt, alloc, &["check", "b"], content, status, written)
+}
+
+/// Whether `print b` ends so over a file of this content.
+fn prints<R: Threads + Sync>(
+    rt: &R,
+    alloc: Global,
+    content: &[u8],
+    status: u8,
+    written: &[u8],
+) -> Result<bool, Fail> {
+    ends(rt, alloc, &["print", "b"], content, status, written)
 }
 
 #[test]
@@ -283,7 +306,10 @@ fn words_of_no_command_are_refused_with_the_usage_lines(rt: HostRuntime) -> Resu
         &["check"],
         &["check", "a", "b"],
         &["check", "-x"],
-        &["check", "-"],
+        &["check", "--"],
+        &["check", "--", "a", "b"],
+        &["print"],
+        &["print", "--x", "--"],
         &["verify", "b"],
     ];
     for words in refused {
@@ -293,6 +319,110 @@ fn words_of_no_command_are_refused_with_the_usage_lines(rt: HostRuntime) -> Resu
         assert_eq!(rt; verify_quiet(&rt, alloc, &words, &mut shelf, &mut out), 40);
         assert_eq!(rt; out.written(), USAGE);
     }
+    Ok(())
+}
+
+#[test]
+fn the_name_of_a_file_may_stand_behind_two_dashes(rt: HostRuntime) -> Result<(), Fail> {
+    let alloc = rt.alloc();
+    let valid = b"VALID SAFE\n";
+    assert!(rt; ends(&rt, alloc, &["check", "--", "b"], ONE_VARIABLE, 0, valid)?);
+    assert!(rt; ends(&rt, alloc, &["check", "b", "--"], ONE_VARIABLE, 0, valid)?);
+    let dash = b"REFUSED read -\n";
+    assert!(rt; ends(&rt, alloc, &["check", "-"], ONE_VARIABLE, 50, dash)?);
+    let option = b"REFUSED read -x\n";
+    assert!(rt; ends(&rt, alloc, &["print", "--", "-x"], ONE_VARIABLE, 50, option)?);
+    Ok(())
+}
+
+// A text that is its own canonical one.
+const CANONICAL: &[u8] = b"system p;
+sort A;
+sort B;
+nullable n : B -> A;
+var x : A;
+unsafe {
+  when n(undef) != x or true;
+}
+";
+
+#[test]
+fn a_specification_is_printed_in_its_canonical_text(rt: HostRuntime) -> Result<(), Fail> {
+    let alloc = rt.alloc();
+    let dense = b"system p;sort A;sort B;nullable n:B->A;var x:A;unsafe{when n(undef)!=x or true;}";
+    assert!(rt; prints(&rt, alloc, dense, 0, CANONICAL)?);
+    assert!(rt; prints(&rt, alloc, CANONICAL, 0, CANONICAL)?);
+    Ok(())
+}
+
+#[test]
+fn a_file_that_denotes_no_system_is_refused_at_its_first_fault(
+    rt: HostRuntime,
+) -> Result<(), Fail> {
+    let alloc = rt.alloc();
+    let cycle = b"system s;\nsort A;\nsort B;\ntotal f : A -> B;\ntotal g : B -> A;\n";
+    let refused = b"REFUSED file AT 50 CYCLE B A\n";
+    assert!(rt; prints(&rt, alloc, cycle, 30, refused)?);
+    assert!(rt; prints(&rt, alloc, b"", 30, b"REFUSED file AT 0 SYNTAX\n")?);
+    Ok(())
+}
+
+/// A file whose unsafe formula has so many disjuncts more than one.
+fn disjuncts(alloc: Global, more: usize) -> Result<Vec<u8>, AllocError> {
+    let others = times(alloc, b" or x = undef", more)?;
+    let front = b"system w;\nsort A;\nvar x : A;\nunsafe {";
+    joined(alloc, &[front, b" when x = undef", &others, b"; }"])
+}
+
+#[test]
+fn sixty_four_disjuncts_are_printed_and_one_more_is_refused(rt: HostRuntime) -> Result<(), Fail> {
+    let alloc = rt.alloc();
+    let most = disjuncts(alloc, 63)?;
+    let others = times(alloc, b" or x = undef", 63)?;
+    let front = b"system w;\nsort A;\nvar x : A;\nunsafe {\n ";
+    let printed = joined(alloc, &[front, b" when x = undef", &others, b";\n}\n"])?;
+    assert!(rt; prints(&rt, alloc, &most, 0, &printed)?);
+    let more = disjuncts(alloc, 64)?;
+    let refused = b"REFUSED file AT 875 TOO_WIDE\n";
+    assert!(rt; prints(&rt, alloc, &more, 30, refused)?);
+    Ok(())
+}
+
+#[test]
+fn a_specification_is_no_longer_than_its_limit(rt: HostRuntime) -> Result<(), Fail> {
+    let alloc = rt.alloc();
+    let mut longest = times(alloc, b" ", 1_048_567)?;
+    longest.extend_from_slice(b"system s;")?;
+    assert!(rt; prints(&rt, alloc, &longest, 0, b"system s;\n")?);
+    longest.push(b' ')?;
+    assert!(rt; prints(&rt, alloc, &longest, 32, b"REFUSED long b\n")?);
+    Ok(())
+}
+
+/// A file with so many constants and variables.
+fn declarations(alloc: Global, constants: usize, vars: usize) -> Result<Vec<u8>, AllocError> {
+    let mut text = Vec::from_slice(alloc, b"system w;\nsort A;\n")?;
+    for n in 0..constants {
+        let line = format!(in alloc; "const c{n} : A;\n")?;
+        text.extend_from_slice(line.as_bytes())?;
+    }
+    for n in 0..vars {
+        let line = format!(in alloc; "var x{n} : A;\n")?;
+        text.extend_from_slice(line.as_bytes())?;
+    }
+    Ok(text)
+}
+
+#[test]
+fn a_printed_text_is_put_in_pieces(rt: HostRuntime) -> Result<(), Fail> {
+    let alloc = rt.alloc();
+    let content = declarations(alloc, 256, 64)?;
+    assert_eq!(rt; content.len(), 4_826);
+    let words = words_of(alloc, &["print", "b"])?;
+    let mut shelf = shelf_of(alloc, &content, &[])?;
+    let mut out = MemSink::new(alloc, 5_000, vec![in alloc; (2, 10)]?)?;
+    assert_eq!(rt; verify_quiet(&rt, alloc, &words, &mut shelf, &mut out), 51);
+    assert_eq!(rt; out.written(), &content[..4_106]);
     Ok(())
 }
 

@@ -24,5 +24,5 @@ loop-at-preserved g c =
       within = omega (arith, c.min-end.ensures);
       put = piece-put (g.K.Sink.written c.args.out.now) (g.K.Sink.written c.loop-at.out) (g.K.Sink.written c.put.new.self) c.args.text.now c.loop-at.at (c.min-end.result - c.loop-at.at)
           c.loop-at.invariant.put c.in-Ok.ensures.ok ∙ ap (λ (n : ℕ). append_known (g.K.Sink.written c.args.out.now) (take n c.args.text.now)) past;
-      faults = omega (arith, c.in-Ok.ensures.grows, c.loop-at.invariant.faults);
+      faults = c.in-Ok.ensures.stands ∙ c.loop-at.invariant.faults;
     }

@@ -6,7 +6,7 @@ abbrev pub invariant-loop-at : goal.invariant-loop-at
 invariant-loop-at g l = record {
   within : l.at ≤ length l.text;
   put : g.K.Sink.written l.out ≡ append_known (g.K.Sink.written l.initial.out) (take l.at l.text);
-  faults : g.K.Sink.faults l.initial.out ≤ g.K.Sink.faults l.out;
+  faults : g.K.Sink.faults l.out ≡ g.K.Sink.faults l.initial.out;
 }
 
 abbrev pub decreases-loop-at : goal.decreases-loop-at
