@@ -6,4 +6,5 @@ pub mod Exact
 pub mod FormulaLaws
 pub mod NodeLaws
 pub mod SectionLaws
+pub mod Leading
 pub mod Misfits

@@ -3,13 +3,15 @@ use Rattle.std.proofs.Common.{◌≡◌, ℕ, zero, suc, ◌^◌, ◌<◌, List,
 use Rattle.std.specs.Prelude.{Ok, Err}
 use Rattle.std.specs.List.{flat_map, AllByRecursion}
 use Rattle.std.specs.Fmt.{decimal}
-use Rattle.ras_lines.specs.Lines.{count_line, AreWritten}
+use Rattle.ras_lines.specs.Lines.{count_line, numbers_line, AreWritten}
+use Rattle.ras_lines.specs.Trees.{IsWrittenNumber}
 use Rattle.ras_lines.specs.Lines as texts
 use Rattle.ras_lines.specs.Faults.{IsMisfit}
 use Rattle.ras_lines.specs.Fronts.{Front, follow, prepend, times, chain, IsExact}
-use Rattle.ras_lines.specs.Numbers.{fixed, number, behind_blank}
-use Rattle.ras_lines.specs.Sections.{whole, at_line, count, section, nothing, only}
-use Rattle.ras_lines.proofs.Exact.{followed, moved, joined, fixed_sound, fixed_again, EndsWord, number_exact, blank_word, blank_exact, times_sound, times_again, said_otherwise}
+use Rattle.ras_lines.specs.Numbers.{fixed, number, behind_blank, announced}
+use Rattle.ras_lines.specs.Sections.{whole, at_line, count, numbers, section, nothing, only}
+use Rattle.ras_lines.proofs.Exact.{followed, moved, joined, fixed_sound, fixed_again, EndsWord, number_exact, blank_word, blank_exact, announced_text, announced_exact, times_sound, times_again, said_otherwise}
+use Rattle.ras_lines.proofs.FormulaLaws.{spaced-counted}
 
 abbrev pub Line : Type 0
 Line = List ℕ
@@ -223,7 +225,7 @@ fixed_line word = line_exact (λ _. word) (λ _. Unit {0}) (fixed word) (fixed_e
 count_text : (word : List ℕ) (n : ℕ) → count_line word n ≡ word ++ blank_word decimal n
 count_text word n = ap (λ (l : List ℕ). word ++ l) (append-nil (blank_word decimal n))
 
-count_exact : (word : List ℕ) → IsExact EndsWord (count_line word) (λ n. n < 2 ^ 32) (count word)
+pub count_exact : (word : List ℕ) → IsExact EndsWord (count_line word) (λ n. n < 2 ^ 32) (count word)
 count_exact word =
     let next = blank_exact decimal (λ n. n < 2 ^ 32) number number_exact in
     record {
@@ -239,6 +241,31 @@ count_exact word =
 
 pub count_line_exact : (word : List ℕ) → IsExactText (λ n. count_line word n ∷ []) (λ n. n < 2 ^ 32) (at_line (count word))
 count_line_exact word = line_exact (count_line word) (λ n. n < 2 ^ 32) (count word) (count_exact word) 0 (omega arith)
+
+-- A line of a word, a count and so many numbers.
+
+numbers_text : (word ns : List ℕ) → numbers_line word ns ≡ word ++ announced_text decimal ns
+numbers_text word ns = ap (λ (l : List ℕ). word ++ l) (spaced-counted decimal ns)
+
+numbers_exact : (word : List ℕ) → IsExact EndsWord (numbers_line word) (AreWritten IsWrittenNumber) (numbers word)
+numbers_exact word =
+    let all = announced_exact decimal IsWrittenNumber number number_exact in
+    record {
+      sound = λ bytes ns rest e.
+          let s = followed (fixed word bytes) (λ _ more. announced number more) ns rest e in
+          let c = all.sound s.1 ns rest s.3 in
+          (joined word (announced_text decimal ns) bytes s.1 rest (fixed_sound word bytes s.1 s.0 s.2) c.0 ∙ ap (λ (l : List ℕ). l ++ rest) (sym (numbers_text word ns)), c.1);
+      again = λ ns rest valid ends.
+          ap (λ (l : List ℕ). numbers word (l ++ rest)) (numbers_text word ns) ∙ ap (numbers word) (append_assoc word (announced_text decimal ns) rest)
+          ∙ ap (λ (o : Front ℕ (Unit {0})). follow o (λ _ more. announced number more)) (fixed_again word (announced_text decimal ns ++ rest))
+          ∙ all.again ns rest valid ends;
+    }
+
+none_written : AreWritten IsWrittenNumber []
+none_written = record { count = omega arith; each = tt }
+
+pub numbers_line_exact : (word : List ℕ) → IsExactText (λ ns. numbers_line word ns ∷ []) (AreWritten IsWrittenNumber) (at_line (numbers word))
+numbers_line_exact word = line_exact (numbers_line word) (AreWritten IsWrittenNumber) (numbers word) (numbers_exact word) [] none_written
 
 module _ {X : Type 0} (word : List ℕ) (text : X → List Line) (Valid : X → Type 0) (f : List Line → Front Line X) (exact : IsExactText text Valid f) (some : X) (some_valid : Valid some) where
   abbrev pub section_text : List X → List Line
@@ -423,6 +450,10 @@ section_lines {X} word text Valid g exact some valid =
     text_otherwise (λ xs. count_line word (length xs) ∷ flat_map (λ x. text x ∷ []) xs) (texts.section word text) (AreWritten Valid) (AreWritten Valid) (section word (at_line g))
     (λ xs. ap (λ (ls : List Line). count_line word (length xs) ∷ ls) (each_line text xs)) (λ xs v. v) (λ xs v. v)
     (section_exact word (λ x. text x ∷ []) Valid (at_line g) (line_exact text Valid g exact some valid) some valid)
+
+-- a section of lines of numbers
+pub numbers_section_exact : (head word : List ℕ) → IsExactText (texts.section head (numbers_line word)) (AreWritten (AreWritten IsWrittenNumber)) (section head (at_line (numbers word)))
+numbers_section_exact head word = section_lines head (numbers_line word) (AreWritten IsWrittenNumber) (numbers word) (numbers_exact word) [] none_written
 
 -- a fixed line, and what stands behind it
 pub under_line : {X : Type 0} (word : List ℕ) (text : X → List Line) (V : X → Type 0) (f : List Line → Front Line X) → IsExactText text V f → (some : X) → V some

@@ -16,6 +16,11 @@ follow (Err left) f = Err left
 abbrev pub chain : {T X Y Z : Type 0} → (X → Y → Z) → (List T → Front T X) → (List T → Front T Y) → List T → Front T Z
 chain make f g ts = follow (f ts) (λ x more. follow (g more) (λ y rest. Ok (make x y, rest)))
 
+-- a value made of the one that comes first
+abbrev pub made : {T X Y : Type 0} → (X → Y) → Front T X → Front T Y
+made make (Ok p) = Ok (make p.0, p.1)
+made make (Err left) = Err left
+
 -- these values first
 abbrev pub prepend : {T X : Type 0} → List X → Front T (List X) → Front T (List X)
 prepend xs (Ok p) = Ok (xs ++ p.0, p.1)

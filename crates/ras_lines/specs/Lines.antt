@@ -19,6 +19,10 @@ counted words = decimal (length words) ∷ words
 abbrev pub count_line : List ℕ → ℕ → List ℕ
 count_line word n = line word (decimal n ∷ [])
 
+-- a line of a word, a count and so many numbers
+abbrev pub numbers_line : List ℕ → List ℕ → List ℕ
+numbers_line word numbers = line word (counted (map decimal numbers))
+
 -- a line with the count of some values, and the line of each
 abbrev pub section : {X : Type 0} → List ℕ → (X → List ℕ) → List X → List (List ℕ)
 section word text xs = count_line word (length xs) ∷ map text xs

@@ -2,12 +2,12 @@ ghost use Rattle.std.specs.Prelude.{◌≡◌, ◌≤◌, ◌∷◌, [], MatchOp
 ghost use Rattle.ras_lines.specs.Lines.{lines_of};
 ghost use Rattle.ras_lines.specs.Fronts.{Reads, times};
 ghost use Rattle.ras_lines.specs.Numbers as first;
-ghost use Rattle.ras_lines.specs.Sections.{at_line, count, section};
+ghost use Rattle.ras_lines.specs.Sections.{at_line, count, numbers, section};
 
-use crate::spelled::Spelled;
+use crate::spelled::{Spelled, counted};
 use crate::stop::Stop;
 use crate::words::Words;
-use ras_logic::Seq;
+use ras_logic::{List, Seq};
 use std::alloc::Global;
 
 /// The lines that are left to read.
@@ -82,6 +82,23 @@ impl Lines<'_> {
         }
         self.rest = rest;
         Ok(n)
+    }
+
+    /// A line of a word, a count and as many numbers.
+    pub fn numbers(&mut self, alloc: Global, word: &[u8]) -> Result<List<u32>, Stop>
+        ensures { Reads (at_line (numbers word.now)) (lines_of self.old.rest.now) (lines_of self.new.rest.now) result }
+    {
+        let Some((line, rest)) = first_line(self.rest) else {
+            return Err(Stop::Misfit);
+        };
+        let mut words = Words { rest: line };
+        words.fixed(word)?;
+        let numbers = counted(&mut words, alloc)?;
+        if !words.rest.is_empty() {
+            return Err(Stop::Misfit);
+        }
+        self.rest = rest;
+        Ok(numbers)
     }
 
     /// A line of a value.

@@ -1,0 +1,3 @@
+pub mod DatabaseTexts
+pub mod RunTexts
+pub mod Reading
