@@ -24,7 +24,7 @@ use Rattle.ras_evidence.specs.declared.header.Header.{Header}
 use Rattle.ras_evidence.specs.declared.safe.SafeEvidence.{SafeEvidence}
 use Rattle.ras_evidence.specs.Headers as headers
 use Rattle.ras_evidence.specs.Headers.{verdict_word, header_line, IsWrittenHeader}
-use Rattle.ras_evidence.specs.SafeTexts.{safe_lines, safe}
+use Rattle.ras_evidence.specs.SafeTexts.{safe_lines, to_end, safe_parts, safe}
 
 -- The first line.
 
@@ -44,7 +44,7 @@ verdict_again Safe rest = refl
 verdict_again Unsafe rest = refl
 verdict_again Unknown rest = refl
 
-verdict_exact : IsExact EndsWord verdict_word (λ _. Unit {0}) headers.verdict
+pub verdict_exact : IsExact EndsWord verdict_word (λ _. Unit {0}) headers.verdict
 verdict_exact = record { sound = verdict_sound; again = λ v rest valid ends. verdict_again v rest }
 
 abbrev make_header : ℕ → Verdict → Header
@@ -82,7 +82,7 @@ trees_exact = section_lines (codes "trees") tree_line IsWrittenTree tree tree_ex
 abbrev make_safe : List Problem → List Tree → SafeEvidence
 make_safe formulas trees = record { formulas = formulas; trees = trees }
 
-abbrev parts_text : SafeEvidence → List (List ℕ)
+abbrev pub parts_text : SafeEvidence → List (List ℕ)
 parts_text s = section (codes "formulas") cube_line s.formulas ++ section (codes "trees") tree_line s.trees
 
 abbrev pub IsWrittenSafe : SafeEvidence → Type 0
@@ -96,15 +96,14 @@ parts_exact =
     chain_exact make_safe (λ s. s.formulas) (λ s. s.trees) (λ f t. refl) (λ f t. refl) (λ s. refl) (section (codes "formulas") cube_line) (AreWritten IsSmallCube) (lines.section (codes "formulas") (lines.at_line cube))
     formulas_exact (section (codes "trees") tree_line) (AreWritten IsWrittenTree) (lines.section (codes "trees") (lines.at_line tree)) trees_exact [] (none_written IsWrittenTree)
 
-abbrev to_end : List (List ℕ) → Front (List ℕ) SafeEvidence
-to_end ls = chain (λ s _. s) (chain make_safe (lines.section (codes "formulas") (lines.at_line cube)) (lines.section (codes "trees") (lines.at_line tree))) (lines.at_line (fixed (codes "end"))) ls
+-- what stands before `end`
+pub ended_exact : {X : Type 0} (text : X → List (List ℕ)) (V : X → Type 0) (f : List (List ℕ) → Front (List ℕ) X) → IsExactText text V f → IsExactText (λ x. text x ++ codes "end" ∷ []) V (to_end f)
+ended_exact {X} text V f exact =
+    text_otherwise (λ x. text x ++ codes "end" ∷ []) (λ x. text x ++ codes "end" ∷ []) (λ x. V x × Unit {0}) V (to_end f) (λ x. refl) (λ x v. v.0) (λ x v. (v, tt))
+    (chain_exact (λ x _. x) (λ x. x) (λ x. tt) (λ x u. refl) (λ x u. refl) (λ x. refl) text V f exact (λ _. codes "end" ∷ []) (λ _. Unit {0}) (lines.at_line (fixed (codes "end"))) (fixed_line (codes "end")) tt tt)
 
-to_end_exact : IsExactText (λ s. parts_text s ++ codes "end" ∷ []) IsWrittenSafe to_end
-to_end_exact =
-    text_otherwise (λ s. parts_text s ++ codes "end" ∷ []) (λ s. parts_text s ++ codes "end" ∷ []) (λ s. IsWrittenSafe s × Unit {0}) IsWrittenSafe to_end (λ s. refl) (λ s v. v.0) (λ s v. (v, tt))
-    (chain_exact (λ s _. s) (λ s. s) (λ s. tt) (λ s u. refl) (λ s u. refl) (λ s. refl) parts_text IsWrittenSafe
-    (chain make_safe (lines.section (codes "formulas") (lines.at_line cube)) (lines.section (codes "trees") (lines.at_line tree))) parts_exact (λ _. codes "end" ∷ []) (λ _. Unit {0})
-    (lines.at_line (fixed (codes "end"))) (fixed_line (codes "end")) tt tt)
+pub safe_parts_exact : IsExactText (λ s. parts_text s ++ codes "end" ∷ []) IsWrittenSafe safe_parts
+safe_parts_exact = ended_exact parts_text IsWrittenSafe (chain make_safe (lines.section (codes "formulas") (lines.at_line cube)) (lines.section (codes "trees") (lines.at_line tree))) parts_exact
 
 abbrev pub safe_text : SafeEvidence → List (List ℕ)
 safe_text s = safe_lines s.formulas s.trees
@@ -116,4 +115,4 @@ text_is s =
 pub safe_exact : IsExactText safe_text IsWrittenSafe safe
 safe_exact =
     text_otherwise (λ s. codes "evidence 1 safe" ∷ (parts_text s ++ codes "end" ∷ [])) safe_text IsWrittenSafe IsWrittenSafe safe text_is (λ s v. v) (λ s v. v)
-    (under_line (codes "evidence 1 safe") (λ s. parts_text s ++ codes "end" ∷ []) IsWrittenSafe to_end to_end_exact (record { formulas = []; trees = [] }) (none_written IsSmallCube, none_written IsWrittenTree))
+    (under_line (codes "evidence 1 safe") (λ s. parts_text s ++ codes "end" ∷ []) IsWrittenSafe safe_parts safe_parts_exact (record { formulas = []; trees = [] }) (none_written IsSmallCube, none_written IsWrittenTree))

@@ -20,7 +20,7 @@ header_found lines rest h e = let s = first_line.reads.sound lines h rest e in (
 pub read_again : (lines : List (List ℕ)) (h : Header) (is : IsHeaderOf lines h) → at_line header lines ≡ Ok (h, is.0)
 read_again lines h is = ap (at_line header) is.1 ∙ first_line.reads.again h is.0 is.2 tt
 
-never_both : (o : Front (List ℕ) Header) (left : List (List ℕ)) (h : Header) (rest : List (List ℕ)) → o ≡ Err left → o ≡ Ok (h, rest) → ⊥
+pub never_both : (o : Front (List ℕ) Header) (left : List (List ℕ)) (h : Header) (rest : List (List ℕ)) → o ≡ Err left → o ≡ Ok (h, rest) → ⊥
 never_both o left h rest e f = cc
 
 pub no_header : (lines left : List (List ℕ)) → at_line header lines ≡ Err left → HasNoOtherHeader lines

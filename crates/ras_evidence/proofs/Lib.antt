@@ -1,7 +1,9 @@
 pub mod EvidenceLaws
+pub mod KindLaws
 pub mod SystemLaws
 pub mod HeaderLaws
 pub mod BundleLaws
 pub mod PlainLaws
 pub mod RefusalLaws
 pub mod OneFault
+pub mod TextLaws

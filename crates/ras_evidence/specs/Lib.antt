@@ -1,9 +1,13 @@
 pub mod Headers
 pub mod SafeTexts
+pub mod EvidenceTexts
+pub mod EvidenceReading
 pub mod SystemTexts
 pub mod SystemReading
 pub mod Numbers
 pub mod Bundles
 pub mod Refusals
 pub mod BundleFaults
+pub mod EvidenceFaults
 pub mod Endings
+pub mod Worked

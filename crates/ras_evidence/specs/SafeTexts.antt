@@ -28,9 +28,15 @@ abbrev pub IsSomeSafeText : List (List ℕ) → Type 0
 IsSomeSafeText lines = (formulas : List Problem) × (trees : List Tree) × IsSafeText lines formulas trees
 
 -- How it is read.
+
+-- a value, and the line `end`
+abbrev pub to_end : {X : Type 0} → (List (List ℕ) → Front (List ℕ) X) → List (List ℕ) → Front (List ℕ) X
+to_end f lines = chain (λ x _. x) f (first.at_line (fixed (codes "end"))) lines
+
+-- what stands behind the first line
+abbrev pub safe_parts : List (List ℕ) → Front (List ℕ) SafeEvidence
+safe_parts lines =
+    to_end (chain (λ fs ts. record { formulas = fs; trees = ts }) (first.section (codes "formulas") (first.at_line cube)) (first.section (codes "trees") (first.at_line tree))) lines
+
 abbrev pub safe : List (List ℕ) → Front (List ℕ) SafeEvidence
-safe lines =
-    chain (λ _ s. s) (first.at_line (fixed (codes "evidence 1 safe")))
-    (chain (λ s _. s)
-    (chain (λ fs ts. record { formulas = fs; trees = ts }) (first.section (codes "formulas") (first.at_line cube)) (first.section (codes "trees") (first.at_line tree)))
-    (first.at_line (fixed (codes "end")))) lines
+safe lines = chain (λ _ s. s) (first.at_line (fixed (codes "evidence 1 safe"))) safe_parts lines

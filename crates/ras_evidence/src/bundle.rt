@@ -22,7 +22,7 @@ pub struct Bundle {
 }
 
 /// The number of the first line that is left.
-fn line_number(bytes: &[u8], rest: &[u8]) -> u64
+pub(crate) fn line_number(bytes: &[u8], rest: &[u8]) -> u64
     requires { length (lines_of rest.now) ≤ length (lines_of bytes.now) }
     ensures { IsLineOf (lines_of bytes.now) (lines_of rest.now) result }
 {

@@ -1,0 +1,246 @@
+-- Bytes are the text of one evidence, or have one first fault.
+use Rattle.std.proofs.Common.{◌≡◌, ◌≢◌, ℕ, ◌+◌, ◌-◌, ◌≤◌, List, [], ◌∷◌, ◌++◌, length, Bool, true, false, eqb, refl, sym, ap, subst, ◌∙◌, arith, append-nil, inl, inr}
+use Rattle.std.specs.Prelude.{Ok, Err, codes, ◌⊎◌}
+use Rattle.std.proofs.lemmas.Bool.{eqb-true, eqb-false}
+use Rattle.std.proofs.lemmas.Fmt.{decimal_digit}
+use Rattle.ras_lines.specs.Lines.{line, lines_of}
+use Rattle.ras_lines.specs.Faults.{AreLines, Begins, IsMisfit}
+use Rattle.ras_lines.specs.Fronts.{Front}
+use Rattle.ras_lines.specs.Sections.{at_line, only}
+use Rattle.ras_lines.proofs.LineEnds.{cut, one_cut}
+use Rattle.ras_lines.proofs.Misfits.{not_all_fit, one_misfit}
+use Rattle.ras_lines.proofs.SectionLaws.{IsText, only_sound, only_nothing, only_fault, misfit_otherwise}
+use Rattle.ras_evidence.specs.declared.header.Header.{Header}
+use Rattle.ras_evidence.specs.declared.fault.EvidenceKind.{EvidenceKind}
+use Rattle.ras_evidence.specs.declared.fault.EvidenceKind.TheVariants.{Version, Text, Ended, Unbuilt}
+use Rattle.ras_evidence.specs.declared.fault.EvidenceFault.{EvidenceFault}
+use Rattle.ras_evidence.specs.declared.value.Evidence.{Evidence}
+use Rattle.ras_evidence.specs.Headers.{header, verdict_word}
+use Rattle.ras_evidence.specs.Endings.{last_of}
+use Rattle.ras_evidence.specs.Bundles.{IsHeaderOf}
+use Rattle.ras_evidence.specs.BundleFaults.{IsLineOf}
+use Rattle.ras_evidence.specs.EvidenceTexts.{verdict_of, parts_lines, evidence_lines, IsWritable, AreEvidenceLines, AreSomeEvidence, IsEvidenceText}
+use Rattle.ras_evidence.specs.EvidenceReading.{evidence}
+use Rattle.ras_evidence.specs.EvidenceFaults.{HasOtherVersion, IsTextFault, IsFirstFault, IsKindOf}
+use Rattle.ras_evidence.proofs.BundleLaws.{not_more, ended}
+use Rattle.ras_evidence.proofs.HeaderLaws.{header_found, read_again, never_both, same_read}
+use Rattle.ras_evidence.proofs.RefusalLaws.{one_header}
+use Rattle.ras_evidence.proofs.KindLaws.{evidence_exact}
+
+-- What is read.
+
+to_some : (ls : List (List ℕ)) → IsText evidence_lines IsWritable evidence evidence_exact ls → AreSomeEvidence ls
+to_some ls t = (t.0, record { text = t.1.0; writable = t.1.1 })
+
+from_some : (ls : List (List ℕ)) → AreSomeEvidence ls → IsText evidence_lines IsWritable evidence evidence_exact ls
+from_some ls t = (t.0, (t.1.text, t.1.writable))
+
+pub evidence_fault : (lines left : List (List ℕ)) → only evidence lines ≡ Err left → IsMisfit AreSomeEvidence lines left
+evidence_fault lines left e =
+    misfit_otherwise (IsText evidence_lines IsWritable evidence evidence_exact) AreSomeEvidence to_some from_some lines left (only_fault evidence_lines IsWritable evidence evidence_exact lines left e)
+
+pub evidence_read : (lines rest : List (List ℕ)) (e : Evidence) → only evidence lines ≡ Ok (e, rest) → AreEvidenceLines lines e
+evidence_read lines rest e is = let s = only_sound evidence_lines IsWritable evidence evidence_exact lines e rest is in record { text = s.0; writable = s.1 }
+
+pub evidence_nothing : (lines rest : List (List ℕ)) (e : Evidence) → only evidence lines ≡ Ok (e, rest) → rest ≡ []
+evidence_nothing lines rest e is = only_nothing evidence_lines IsWritable evidence evidence_exact lines e rest is
+
+whole_begins : (lines : List (List ℕ)) → AreSomeEvidence lines → Begins AreSomeEvidence lines
+whole_begins lines t = ([], subst AreSomeEvidence (sym (append-nil lines)) t)
+
+all_begin : (lines left : List (List ℕ)) → IsMisfit AreSomeEvidence lines left → left ≡ [] → Begins AreSomeEvidence lines
+all_begin lines left m none = subst (Begins AreSomeEvidence) (sym (m.parts ∙ ap (λ (l : List (List ℕ)). m.front ++ l) none ∙ append-nil m.front)) m.begins
+
+-- One text has one evidence.
+
+again : (lines : List (List ℕ)) (e : Evidence) → AreEvidenceLines lines e → evidence lines ≡ Ok (e, [])
+again lines e t = ap evidence (t.text ∙ sym (append-nil (evidence_lines e))) ∙ evidence_exact.reads.again e [] t.writable tt
+
+one_on_lines : (lines : List (List ℕ)) (e d : Evidence) → AreEvidenceLines lines e → AreEvidenceLines lines d → e ≡ d
+one_on_lines lines e d s t = (same_read e d [] [] (sym (again lines e s) ∙ again lines d t)).0
+
+on_lines : (bytes rest : List ℕ) (lines : List (List ℕ)) (e : Evidence) → AreLines bytes lines rest → IsEvidenceText bytes e → AreEvidenceLines lines e × (rest ≡ [])
+on_lines bytes rest lines e are t =
+    let same = one_cut bytes rest [] lines (evidence_lines e) are t.lines in
+    (record { text = same.0; writable = t.writable }, same.1)
+
+pub from_lines : (bytes rest : List ℕ) (lines : List (List ℕ)) (e : Evidence) → AreLines bytes lines rest → AreEvidenceLines lines e → rest ≡ [] → IsEvidenceText bytes e
+from_lines bytes rest lines e are t none = record {
+  lines = subst (λ (r : List ℕ). AreLines bytes (evidence_lines e) r) none (subst (λ (ls : List (List ℕ)). AreLines bytes ls rest) t.text are);
+  writable = t.writable;
+}
+
+pub one_evidence : (bytes : List ℕ) (e d : Evidence) → IsEvidenceText bytes e → IsEvidenceText bytes d → e ≡ d
+one_evidence bytes e d s t =
+    let on = on_lines bytes [] (evidence_lines e) d s.lines t in
+    one_on_lines (evidence_lines e) e d (record { text = refl; writable = s.writable }) on.0
+
+-- The first line.
+
+own_header : (e : Evidence) → IsHeaderOf (evidence_lines e) (record { version = 1; verdict = verdict_of e })
+own_header e = (
+  parts_lines e ++ codes "end" ∷ [],
+  ap (λ (one : List ℕ). line (codes "evidence") (one ∷ verdict_word (verdict_of e) ∷ []) ∷ (parts_lines e ++ codes "end" ∷ [])) (sym (decimal_digit 1 (omega arith))),
+  omega arith,
+)
+
+-- lines with which some text begins are not of another version
+pub no_other : (lines : List (List ℕ)) → Begins AreSomeEvidence lines → HasOtherVersion lines → ⊥
+no_other lines b (h, (behind, first, small), ne) =
+    let e = b.1.0 in
+    let there : evidence_lines e ≡ lines ++ b.0 = sym b.1.1.text in
+    let is : IsHeaderOf (evidence_lines e) h = (behind ++ b.0, there ∙ ap (λ (ls : List (List ℕ)). ls ++ b.0) first, small) in
+    ne (ap (λ (k : Header). k.version) (one_header (evidence_lines e) h (record { version = 1; verdict = verdict_of e }) is (own_header e)))
+
+pub none_other : (lines left : List (List ℕ)) → at_line header lines ≡ Err left → HasOtherVersion lines → ⊥
+none_other lines left e other = never_both (at_line header lines) left other.0 other.1.0 e (read_again lines other.0 other.1)
+
+pub this_version : (lines rest : List (List ℕ)) (h : Header) → at_line header lines ≡ Ok (h, rest) → h.version ≡ 1 → HasOtherVersion lines → ⊥
+this_version lines rest h e is other =
+    let same : h ≡ other.0 = (same_read h other.0 rest other.1.0 (sym e ∙ read_again lines other.0 other.1)).0 in
+    other.2 (sym (ap (λ (k : Header). k.version) same) ∙ is)
+
+pub that_version : (lines rest : List (List ℕ)) (h : Header) → at_line header lines ≡ Ok (h, rest) → h.version ≢ 1 → HasOtherVersion lines
+that_version lines rest h e ne = (h, header_found lines rest h e, ne)
+
+-- One fault.
+
+never_version : (lines left : List (List ℕ)) (rest : List ℕ) → HasOtherVersion lines → IsTextFault lines left rest Ended → ⊥
+never_version lines left rest other f = no_other lines f.1 other
+
+one_kind : (lines left other : List (List ℕ)) (rest : List ℕ) (k j : EvidenceKind) → IsTextFault lines left rest k → IsTextFault lines other rest j → (k ≡ j) × (left ≡ other)
+one_kind lines left other rest Version Version a b = (refl, a.1 ∙ sym b.1)
+one_kind lines left other rest Version Text a b = absurd (b.0 a.0)
+one_kind lines left other rest Version Ended a b = absurd (never_version lines other rest a.0 b)
+one_kind lines left other rest Version Unbuilt a b = absurd b
+one_kind lines left other rest Text Version a b = absurd (a.0 b.0)
+one_kind lines left other rest Text Text a b = (refl, one_misfit AreSomeEvidence lines left other a.2 b.2)
+one_kind lines left other rest Text Ended a b = absurd (not_all_fit AreSomeEvidence lines left a.2 a.1 b.1)
+one_kind lines left other rest Text Unbuilt a b = absurd b
+one_kind lines left other rest Ended Version a b = absurd (never_version lines left rest b.0 a)
+one_kind lines left other rest Ended Text a b = absurd (not_all_fit AreSomeEvidence lines other b.2 b.1 a.1)
+one_kind lines left other rest Ended Ended a b = (refl, a.0 ∙ sym b.0)
+one_kind lines left other rest Ended Unbuilt a b = absurd b
+one_kind lines left other rest Unbuilt j a b = absurd a
+
+same_line : (lines left : List (List ℕ)) (n m : ℕ) → IsLineOf lines left n → IsLineOf lines left m → n ≡ m
+same_line lines left n m a b = omega (arith, a, b)
+
+abbrev fault_of : ℕ → EvidenceKind → EvidenceFault
+fault_of n k = record { line = n; kind = k }
+
+pub one_fault : (bytes : List ℕ) (f g : EvidenceFault) → IsFirstFault bytes f → IsFirstFault bytes g → f ≡ g
+one_fault bytes f g a b =
+    let cuts = one_cut bytes a.rest b.rest a.lines b.lines a.are b.are in
+    let fault : IsTextFault b.lines a.left b.rest f.kind = subst (λ (r : List ℕ). IsTextFault b.lines a.left r f.kind) cuts.1 (subst (λ (ls : List (List ℕ)). IsTextFault ls a.left a.rest f.kind) cuts.0 a.fault) in
+    let same = one_kind b.lines a.left b.left b.rest f.kind g.kind fault b.fault in
+    let number : IsLineOf b.lines b.left f.line = subst (λ (ls : List (List ℕ)). IsLineOf b.lines ls f.line) same.1 (subst (λ (ls : List (List ℕ)). IsLineOf ls a.left f.line) cuts.0 a.line) in
+    ap (λ (n : ℕ). fault_of n f.kind) (same_line b.lines b.left f.line g.line number b.line) ∙ ap (λ (k : EvidenceKind). fault_of g.line k) same.0
+
+-- Never both.
+
+not_both : (lines left : List (List ℕ)) (rest : List ℕ) (k : EvidenceKind) → AreSomeEvidence lines → rest ≡ [] → IsTextFault lines left rest k → ⊥
+not_both lines left rest Version t none f = no_other lines (whole_begins lines t) f.0
+not_both lines left rest Text t none f = f.2.no_text t
+not_both lines left rest Ended t none f = f.2 t none
+not_both lines left rest Unbuilt t none f = f
+
+pub never_fault : (bytes : List ℕ) (e : Evidence) (f : EvidenceFault) → IsEvidenceText bytes e → IsFirstFault bytes f → ⊥
+never_fault bytes e f t fault =
+    let on = on_lines bytes fault.rest fault.lines e fault.are t in
+    not_both fault.lines fault.left fault.rest f.kind (e, on.0) on.1 fault.fault
+
+-- One or the other.
+
+-- the fault where lines are left
+pub left_fault : (lines left : List (List ℕ)) (rest : List ℕ) (k : EvidenceKind) → (HasOtherVersion lines → ⊥) → IsMisfit AreSomeEvidence lines left → IsKindOf left k → IsTextFault lines left rest k
+left_fault lines left rest Text none m is = (none, is, m)
+left_fault lines left rest Ended none m is = (is, all_begin lines left m is, λ t. absurd (m.no_text t))
+left_fault lines left rest Version none m is = absurd is
+left_fault lines left rest Unbuilt none m is = absurd is
+
+-- the fault where a text stands, and behind it a line that is not ended
+pub unended_fault : (lines left : List (List ℕ)) (rest : List ℕ) (k : EvidenceKind) → AreSomeEvidence lines → left ≡ [] → rest ≢ [] → IsKindOf left k → IsTextFault lines left rest k
+unended_fault lines left rest Text t none some is = absurd (omega (arith, is, ap length none))
+unended_fault lines left rest Ended t none some is = (none, whole_begins lines t, λ u. some)
+unended_fault lines left rest Version t none some is = absurd is
+unended_fault lines left rest Unbuilt t none some is = absurd is
+
+-- the line where these are left
+line_where : (lines left : List (List ℕ)) → length left ≤ length lines → IsLineOf lines left (length lines + 1 - length left)
+line_where lines left le = omega (arith, le)
+
+abbrev Either : List ℕ → Type 0
+Either bytes = ((e : Evidence) × IsEvidenceText bytes e) ⊎ ((f : EvidenceFault) × IsFirstFault bytes f)
+
+module _ (bytes rest : List ℕ) (lines : List (List ℕ)) (are : AreLines bytes lines rest) where
+  faulty : (left : List (List ℕ)) (k : EvidenceKind) → length left ≤ length lines → IsTextFault lines left rest k → Either bytes
+  faulty left k le fault = inr (fault_of (length lines + 1 - length left) k, record { lines = lines; rest = rest; are = are; left = left; fault = fault; line = line_where lines left le })
+
+  misfit : (left : List (List ℕ)) → (HasOtherVersion lines → ⊥) → IsMisfit AreSomeEvidence lines left → Either bytes
+  misfit [] none m = faulty [] Ended (omega arith) (left_fault lines [] rest Ended none m refl)
+  misfit (l ∷ ls) none m = faulty (l ∷ ls) Text (not_more lines m.front (l ∷ ls) m.parts) (left_fault lines (l ∷ ls) rest Text none m (omega arith))
+
+  fitting : (r : List ℕ) → rest ≡ r → (e : Evidence) → AreEvidenceLines lines e → Either bytes
+  fitting [] is e t = inl (e, from_lines bytes rest lines e are t is)
+  fitting (b ∷ r) is e t = faulty [] Ended (omega arith) (unended_fault lines [] rest Ended (e, t) refl (λ none. let k : b ∷ r ≡ [] = sym is ∙ none in cc) refl)
+
+  by_reading : (o : Front (List ℕ) Evidence) → only evidence lines ≡ o → (HasOtherVersion lines → ⊥) → Either bytes
+  by_reading (Ok p) is none = fitting rest refl p.0 (evidence_read lines p.1 p.0 is)
+  by_reading (Err left) is none = misfit left none (evidence_fault lines left is)
+
+  by_version : (v : Bool) (h : Header) (behind : List (List ℕ)) → at_line header lines ≡ Ok (h, behind) → eqb h.version 1 ≡ v → Either bytes
+  by_version true h behind is e = by_reading (only evidence lines) refl (this_version lines behind h is (eqb-true h.version 1 e))
+  by_version false h behind is e = faulty lines Version (omega arith) (that_version lines behind h is (eqb-false h.version 1 e), refl)
+
+  by_header : (o : Front (List ℕ) Header) → at_line header lines ≡ o → Either bytes
+  by_header (Ok p) is = by_version (eqb p.0.version 1) p.0 p.1 is refl
+  by_header (Err left) is = by_reading (only evidence lines) refl (none_other lines left is)
+
+pub text_or_fault : (bytes : List ℕ) → Either bytes
+text_or_fault bytes = let k = cut bytes in by_header bytes k.rest (lines_of bytes) k.are (at_line header (lines_of bytes)) refl
+
+-- What is answered.
+
+pub read_left : (lines left : List (List ℕ)) → only evidence lines ≡ Err left → length left ≤ length lines
+read_left lines left e = let m = evidence_fault lines left e in not_more lines m.front left m.parts
+
+pub read_all : (lines rest : List (List ℕ)) (e : Evidence) → only evidence lines ≡ Ok (e, rest) → length rest ≤ length lines
+read_all lines rest e is = omega (arith, ap length (evidence_nothing lines rest e is))
+
+pub version_fault : (bytes : List ℕ) → HasOtherVersion (lines_of bytes) → IsFirstFault bytes (fault_of 1 Version)
+version_fault bytes other =
+    let k = cut bytes in
+    record { lines = lines_of bytes; rest = k.rest; are = k.are; left = lines_of bytes; fault = (other, refl); line = omega arith }
+
+-- Worked texts, which are read by computing.
+
+pub text_read : (bytes : List ℕ) (e : Evidence) → only evidence (lines_of bytes) ≡ Ok (e, []) → eqb (last_of 10 bytes) 10 ≡ true → IsEvidenceText bytes e
+text_read bytes e is last = let k = cut bytes in from_lines bytes k.rest (lines_of bytes) e k.are (evidence_read (lines_of bytes) [] e is) (ended bytes k.rest (lines_of bytes) k.are last)
+
+pub ended_read : (bytes : List ℕ) → only evidence (lines_of bytes) ≡ Err [] → IsFirstFault bytes (fault_of (length (lines_of bytes) + 1) Ended)
+ended_read bytes is =
+    let k = cut bytes in
+    let m = evidence_fault (lines_of bytes) [] is in
+    record {
+      lines = lines_of bytes;
+      rest = k.rest;
+      are = k.are;
+      left = [];
+      fault = (refl, all_begin (lines_of bytes) [] m refl, λ t. absurd (m.no_text t));
+      line = omega arith;
+    }
+
+pub misfit_read : (bytes l : List ℕ) (ls : List (List ℕ)) (h : Header) (behind : List (List ℕ)) → at_line header (lines_of bytes) ≡ Ok (h, behind) → h.version ≡ 1 → only evidence (lines_of bytes) ≡ Err (l ∷ ls)
+    → IsFirstFault bytes (fault_of (length (lines_of bytes) - length ls) Text)
+misfit_read bytes l ls h behind first version is =
+    let k = cut bytes in
+    let m = evidence_fault (lines_of bytes) (l ∷ ls) is in
+    record {
+      lines = lines_of bytes;
+      rest = k.rest;
+      are = k.are;
+      left = l ∷ ls;
+      fault = (this_version (lines_of bytes) behind h first version, omega arith, m);
+      line = omega (arith, not_more (lines_of bytes) m.front (l ∷ ls) m.parts);
+    }
