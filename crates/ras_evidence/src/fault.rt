@@ -21,7 +21,8 @@ pub enum EvidenceKind {
     Unbuilt,
 }
 
-/// The first line of an evidence that does not fit, counted from 1 at the first line of the bundle.
+/// The first line of an evidence that does not fit, counted from 1 at the first line of the text: of the evidence, or of the
+/// bundle that it stands in.
 #[derive(Clone, Copy, Debug, PartialEq, Eq)]
 pub struct EvidenceFault {
     pub line: u64,
