@@ -65,10 +65,11 @@ decided_any P each xs x =
     known : (k : ℕ) (y : _) → k < length xs → get_or xs k y ≡ get_or xs k x
     known k y lt = get_or_from_slice_get xs k (get_or xs k x) y (slice_get-get_or xs k x lt)
 
--- of the elements that stand at some places
+-- what is so of the element at a place, if there is one
 abbrev At : {X : Type 0} → (ℕ → X → Type 0) → List X → ℕ → Type 0
 At {X} P xs k = (x : X) → slice_get xs k ≡ Some x → P k x
 
+-- of the elements at their places
 pub decided_places : {X : Type 0} (P : ℕ → X → Type 0) → ((k : ℕ) (x : X) → Decided (P k x)) → (xs : List X) → Decided ((k : ℕ) (x : X) → slice_get xs k ≡ Some x → P k x)
 decided_places {X} P each xs =
     by_both (λ all k x known. all k (slice_get_within xs k x known) x known) (λ all k lt x known. all k x known) (decided_below (At P xs) at (length xs))
