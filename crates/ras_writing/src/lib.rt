@@ -1,0 +1,15 @@
+//! The texts of evidences: an evidence comes in, its text goes out. The layer above uses the contract of `write_evidence`: the
+//! bytes are the lines of the evidence, each with its end.
+#![tactic(auto)]
+
+mod evidences;
+mod formulas;
+mod law;
+mod put;
+mod runs;
+#[cfg(test)]
+mod tests;
+mod trees;
+
+pub use evidences::write_evidence;
+pub use law::a_writable_evidence_has_its_text;

@@ -1,0 +1,26 @@
+use crate::write_evidence;
+use ras_evidence::read_evidence;
+use std::alloc::Global;
+
+/// Whether the text is read and written again.
+fn comes_back(alloc: Global, text: &[u8]) -> bool {
+    match read_evidence(alloc, text) {
+        Ok(evidence) => match write_evidence(alloc, &evidence) {
+            Ok(bytes) => bytes.as_slice() == text,
+            Err(_) => false,
+        },
+        Err(_) => false,
+    }
+}
+
+#[test]
+fn what_is_read_is_written_again(rt: HostRuntime) {
+    let texts = [
+        b"evidence 1 safe\nformulas 1\ncube 1 0 1 r0.1!=r0.0/0\ntrees 2\ntree leaf\ntree split 0 1 0 1 leaf\nend\n".as_slice(),
+        b"evidence 1 unsafe\nsizes 2 2 1\ntables 1\ntable 1 1\nconstants 0\nvars 0\nrelations 1\nrows 1\nrow 2 0 0\nsteps 1\nstep 0 1 0 2 1 2\nend\n".as_slice(),
+        b"evidence 1 unknown\nbudget 1\ncube 0 1 v0=c2\nsizes 1 3\ntables 0\nconstants 3 1 2 3\nvars 1 3\nrelations 0\nsteps 0\ncube 0 1 v0=u1\nsizes 1 30\ntables 0\nconstants 0\nvars 1 2\nrelations 0\nsteps 0\nend\n".as_slice(),
+    ];
+    for text in texts {
+        assert!(rt; comes_back(rt.alloc(), text));
+    }
+}
