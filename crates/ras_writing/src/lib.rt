@@ -12,4 +12,4 @@ mod tests;
 mod trees;
 
 pub use evidences::write_evidence;
-pub use law::a_writable_evidence_has_its_text;
+pub use law::{a_writable_evidence_has_its_text, what_is_written_is_read_again};
