@@ -68,7 +68,7 @@ fn put_evidence(out: &mut Vec<u8>, alloc: Global, evidence: &Evidence) -> Result
 }
 
 /// The lines of the evidence, each with its end. They are its text where it can be written: its trees are whole, its lists have
-/// fewer than 2^32 items, and an unknown system has at least one entry before the spill.
+/// fewer than 2^32 items, and an evidence of UNKNOWN has at least one entry before the spill.
 #[tactic(auto, using(crate::proofs::PieceLaws::evidence_same))]
 pub fn write_evidence(alloc: Global, evidence: &Evidence) -> Result<Vec<u8>, AllocError>
     ensures lines { IfOk result (λ bytes. bytes.items ≡ written (evidence_lines evidence.now)) }
