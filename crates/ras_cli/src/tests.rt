@@ -422,7 +422,8 @@ fn a_printed_text_is_put_in_pieces(rt: HostRuntime) -> Result<(), Fail> {
     let mut shelf = shelf_of(alloc, &content, &[])?;
     let mut out = MemSink::new(alloc, 5_000, vec![in alloc; (2, 10)]?)?;
     assert_eq!(rt; verify_quiet(&rt, alloc, &words, &mut shelf, &mut out), 51);
-    assert_eq!(rt; out.written(), &content[..4_106]);
+    assert_eq!(rt; out.written().len(), 4_106);
+    assert!(rt; content.starts_with(out.written()));
     Ok(())
 }
 

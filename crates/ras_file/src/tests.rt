@@ -25,11 +25,12 @@ fn refused(alloc: Global, bytes: &[u8]) -> Result<Option<Vec<u8>>, Fail> {
     if bytes.len() > 65_535 {
         return Err("a short text".into());
     }
-    match read_file(alloc, bytes) {
-        Ok(_) => Ok(None),
-        Err(FileError::Fault(fault)) => Ok(Some(refusal_line(alloc, &fault)?)),
-        Err(FileError::Memory(error)) => Err(Fail::from(error)),
-    }
+    let fault = match read_file(alloc, bytes) {
+        Ok(_) => return Ok(None),
+        Err(FileError::Fault(fault)) => fault,
+        Err(FileError::Memory(error)) => return Err(Fail::from(error)),
+    };
+    Ok(Some(refusal_line(alloc, &fault)?))
 }
 
 /// Whether a file is refused with this line.
