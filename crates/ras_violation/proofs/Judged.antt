@@ -169,8 +169,11 @@ module _ (system : SystemParts) (d : RawDb) where
     judged (inl is) = fitting is (decided_state system.shape d run.start)
     judged (inr f) = inr (fault.Database f.0, f.1)
 
+    pub good_or_fault : IsGoodViolation system d run ⊎ HasFault
+    good_or_fault = judged (database.judged system.shape.schema d)
+
     pub fault_of : (¬ IsGoodViolation system d run) → HasFault
-    fault_of none = go (judged (database.judged system.shape.schema d))
+    fault_of none = go good_or_fault
       where
         go : IsGoodViolation system d run ⊎ HasFault → HasFault
         go (inl good) = absurd (none good)

@@ -6,14 +6,15 @@ use ras_logic::List;
 use ras_system::State;
 use std::alloc::{AllocError, Global};
 
-pub(crate) fn put(out: &mut Vec<u8>, text: &[u8]) -> Result<(), AllocError>
+/// Adds a text.
+pub fn put(out: &mut Vec<u8>, text: &[u8]) -> Result<(), AllocError>
     ensures { OnOk result (out.new.items ≡ out.old.items ++ text.now) }
 {
     out.extend_from_slice(text)
 }
 
 /// A blank and a number.
-pub(crate) fn put_number(out: &mut Vec<u8>, alloc: Global, number: usize) -> Result<(), AllocError>
+pub fn put_number(out: &mut Vec<u8>, alloc: Global, number: usize) -> Result<(), AllocError>
     ensures { OnOk result (out.new.items ≡ out.old.items ++ word number) }
 {
     let digits = number.to_string(alloc)?;
