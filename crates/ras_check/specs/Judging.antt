@@ -1,0 +1,52 @@
+-- When an evidence is good, what is wrong with it first, and where there is no judge of it yet.
+use Rattle.std.specs.Prelude.{All, ⊤}
+use Rattle.ras_logic.specs.Formulas.{IsCube}
+use Rattle.ras_logic.specs.Trees.{IsWhole}
+use Rattle.ras_system.specs.Systems.{SystemParts}
+use Rattle.ras_system.specs.Plain.{IsPlain}
+use Rattle.ras_system.specs.Evidence.{IsGoodSafe}
+use Rattle.ras_evidence.specs.declared.value.Evidence.{Evidence}
+use Rattle.ras_evidence.specs.declared.value.Evidence.TheVariants.{Safe, Unsafe, Unknown}
+use Rattle.ras_violation.specs.Violations.{IsGoodViolation}
+use Rattle.ras_violation.specs.ViolationFaults.{IsViolationFault}
+use Rattle.ras_check.specs.declared.verdict.Invalid.{Invalid}
+use Rattle.ras_check.specs.declared.verdict.Invalid.TheVariants as invalid
+use Rattle.ras_check.specs.declared.verdict.Verdict.{Verdict}
+use Rattle.ras_check.specs.declared.verdict.Verdict.TheVariants as verdict
+use Rattle.ras_check.specs.Faults.{IsSafeFault}
+
+-- the nodes of each tree are a whole tree
+abbrev pub HasWholeTrees : Evidence → Type 0
+HasWholeTrees (Safe formulas trees) = All IsWhole trees
+HasWholeTrees (Unsafe db run) = ⊤
+HasWholeTrees (Unknown entries spill) = ⊤
+
+-- the formulas of an evidence of safety name no data parameter
+abbrev pub HasCubes : Evidence → Type 0
+HasCubes (Safe formulas trees) = All IsCube formulas
+HasCubes (Unsafe db run) = ⊤
+HasCubes (Unknown entries spill) = ⊤
+
+-- A good evidence of safety of a system without relations and data parameters, or a violation.
+abbrev pub IsGood : SystemParts → Evidence → Type 0
+IsGood system (Safe formulas trees) = IsPlain system × IsGoodSafe system formulas trees
+IsGood system (Unsafe db run) = IsGoodViolation system db run
+IsGood system (Unknown entries spill) = ⊥
+
+-- what is wrong with an evidence first
+abbrev pub IsInvalid : SystemParts → Evidence → Invalid → Type 0
+IsInvalid system (Safe formulas trees) (invalid.Safe fault) = IsPlain system × IsSafeFault system formulas trees fault
+IsInvalid system (Unsafe db run) (invalid.Violation fault) = IsViolationFault system db run fault
+IsInvalid system _ _ = ⊥
+
+-- An evidence of safety of another system, or an evidence of a spent budget.
+abbrev pub IsUnbuilt : SystemParts → Evidence → Type 0
+IsUnbuilt system (Safe formulas trees) = ¬ IsPlain system
+IsUnbuilt system (Unsafe db run) = ⊥
+IsUnbuilt system (Unknown entries spill) = ⊤
+
+-- the verdict on an evidence
+abbrev pub AnswersCheck : SystemParts → Evidence → Verdict → Type 0
+AnswersCheck system evidence verdict.Valid = IsGood system evidence
+AnswersCheck system evidence (verdict.Invalid fault) = IsInvalid system evidence fault
+AnswersCheck system evidence verdict.Unbuilt = IsUnbuilt system evidence
