@@ -1,5 +1,5 @@
 -- An evidence of safety is read exactly, up to the first line that does not fit.
-use Rattle.std.proofs.Common.{◌≡◌, ℕ, ◌^◌, ◌<◌, List, [], ◌∷◌, ◌++◌, refl, sym, ap, arith, append_assoc, append-nil}
+use Rattle.std.proofs.Common.{◌≡◌, ℕ, ◌^◌, ◌<◌, List, [], ◌∷◌, ◌++◌, refl, sym, ap, arith, append-nil}
 use Rattle.std.specs.Prelude.{Ok, codes}
 use Rattle.std.specs.Fmt.{decimal}
 use Rattle.ras_logic.specs.declared.problem.Problem.{Problem}
@@ -17,14 +17,14 @@ use Rattle.ras_lines.proofs.Behind.{behind_sound}
 use Rattle.ras_lines.proofs.Exact.{moved, either_case, EndsWord, number_exact, blank_word, blank_exact, chain_reads, said_otherwise, fixed_first}
 use Rattle.ras_lines.proofs.FormulaLaws.{cube_exact}
 use Rattle.ras_lines.proofs.NodeLaws.{tree_exact}
-use Rattle.ras_lines.proofs.SectionLaws.{IsExactText, chain_exact, fixed_line, section_lines, under_line, text_otherwise}
+use Rattle.ras_lines.proofs.SectionLaws.{IsExactText, chain_exact, fixed_line, section_lines, text_otherwise}
 use Rattle.ras_evidence.specs.declared.header.Verdict.{Verdict}
 use Rattle.ras_evidence.specs.declared.header.Verdict.TheVariants.{Safe, Unsafe, Unknown}
 use Rattle.ras_evidence.specs.declared.header.Header.{Header}
 use Rattle.ras_evidence.specs.declared.safe.SafeEvidence.{SafeEvidence}
 use Rattle.ras_evidence.specs.Headers as headers
 use Rattle.ras_evidence.specs.Headers.{verdict_word, header_line, IsWrittenHeader}
-use Rattle.ras_evidence.specs.SafeTexts.{safe_lines, to_end, safe_parts, safe}
+use Rattle.ras_evidence.specs.SafeReading.{to_end, safe_parts}
 
 -- The first line.
 
@@ -104,15 +104,3 @@ ended_exact {X} text V f exact =
 
 pub safe_parts_exact : IsExactText (λ s. parts_text s ++ codes "end" ∷ []) IsWrittenSafe safe_parts
 safe_parts_exact = ended_exact parts_text IsWrittenSafe (chain make_safe (lines.section (codes "formulas") (lines.at_line cube)) (lines.section (codes "trees") (lines.at_line tree))) parts_exact
-
-abbrev pub safe_text : SafeEvidence → List (List ℕ)
-safe_text s = safe_lines s.formulas s.trees
-
-text_is : (s : SafeEvidence) → codes "evidence 1 safe" ∷ (parts_text s ++ codes "end" ∷ []) ≡ safe_text s
-text_is s =
-    ap (λ (ls : List (List ℕ)). codes "evidence 1 safe" ∷ ls) (append_assoc (section (codes "formulas") cube_line s.formulas) (section (codes "trees") tree_line s.trees) (codes "end" ∷ []))
-
-pub safe_exact : IsExactText safe_text IsWrittenSafe safe
-safe_exact =
-    text_otherwise (λ s. codes "evidence 1 safe" ∷ (parts_text s ++ codes "end" ∷ [])) safe_text IsWrittenSafe IsWrittenSafe safe text_is (λ s v. v) (λ s v. v)
-    (under_line (codes "evidence 1 safe") (λ s. parts_text s ++ codes "end" ∷ []) IsWrittenSafe safe_parts safe_parts_exact (record { formulas = []; trees = [] }) (none_written IsSmallCube, none_written IsWrittenTree))

@@ -7,8 +7,7 @@ use Rattle.ras_lines.proofs.SectionLaws.{IsExactText, line_exact}
 use Rattle.ras_evidence.specs.declared.header.Verdict.TheVariants.{Safe}
 use Rattle.ras_evidence.specs.declared.header.Header.{Header}
 use Rattle.ras_evidence.specs.Headers.{header, header_line, IsWrittenHeader}
-use Rattle.ras_evidence.specs.Bundles.{IsHeaderOf}
-use Rattle.ras_evidence.specs.BundleFaults.{HasNoOtherHeader}
+use Rattle.ras_evidence.specs.EvidenceFaults.{IsHeaderOf}
 use Rattle.ras_evidence.proofs.EvidenceLaws.{header_exact}
 
 first_line : IsExactText (λ h. header_line h ∷ []) IsWrittenHeader (at_line header)
@@ -23,19 +22,12 @@ read_again lines h is = ap (at_line header) is.1 ∙ first_line.reads.again h is
 pub never_both : (o : Front (List ℕ) Header) (left : List (List ℕ)) (h : Header) (rest : List (List ℕ)) → o ≡ Err left → o ≡ Ok (h, rest) → ⊥
 never_both o left h rest e f = cc
 
-pub no_header : (lines left : List (List ℕ)) → at_line header lines ≡ Err left → HasNoOtherHeader lines
-no_header lines left e = λ h is. absurd (never_both (at_line header lines) left h is.0 e (read_again lines h is))
-
 -- what is read of a list is one
 pub same_read : {T X : Type 0} (x y : X) (a b : List T) → ◌≡◌ {A = Front T X} (Ok (x, a)) (Ok (y, b)) → (x ≡ y) × (a ≡ b)
 same_read {T} {X} x y a b e = (ap (λ (o : Front T X). elim o [ Ok p ↦ p.0 | Err l ↦ x ]) e, ap (λ (o : Front T X). elim o [ Ok p ↦ p.1 | Err l ↦ a ]) e)
 
-pub header_safe : (lines rest : List (List ℕ)) (h : Header) → at_line header lines ≡ Ok (h, rest) → h.version ≡ 1 → h.verdict ≡ Safe → HasNoOtherHeader lines
-header_safe lines rest h e version verdict = λ g is.
-    let same : h ≡ g = (same_read h g rest is.0 (sym e ∙ read_again lines g is)).0 in
-    (sym (ap (λ (k : Header). k.version) same) ∙ version, sym (ap (λ (k : Header). k.verdict) same) ∙ verdict)
-
-pub ruleset header_laws = (header_found, no_header, header_safe)
+pub one_header : (lines : List (List ℕ)) (g h : Header) → IsHeaderOf lines g → IsHeaderOf lines h → g ≡ h
+one_header lines g h a b = (same_read g h a.0 b.0 (sym (read_again lines g a) ∙ read_again lines h b)).0
 
 pub nothing_left : {X : Type 0} (x : X) (lines : List (List ℕ)) → length lines ≤ 0 → nothing x lines ≡ Ok (x, lines)
 nothing_left x [] le = refl

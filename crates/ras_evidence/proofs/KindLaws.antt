@@ -29,7 +29,7 @@ use Rattle.ras_evidence.specs.declared.value.Entry.{Entry}
 use Rattle.ras_evidence.specs.declared.value.Evidence.{Evidence}
 use Rattle.ras_evidence.specs.declared.value.Evidence.TheVariants.{Safe, Unsafe, Unknown}
 use Rattle.ras_evidence.specs.Headers.{verdict, verdict_word}
-use Rattle.ras_evidence.specs.SafeTexts.{to_end, safe_parts}
+use Rattle.ras_evidence.specs.SafeReading.{to_end, safe_parts}
 use Rattle.ras_evidence.specs.EvidenceTexts.{verdict_of, entry_lines, parts_lines, evidence_lines, IsWrittenEntry, IsWritable}
 use Rattle.ras_evidence.specs.EvidenceReading as first
 use Rattle.ras_evidence.proofs.EvidenceLaws.{empty_cube, verdict_exact, parts_text, IsWrittenSafe, ended_exact, safe_parts_exact}

@@ -1,9 +1,5 @@
 pub mod EvidenceLaws
 pub mod KindLaws
-pub mod SystemLaws
 pub mod HeaderLaws
-pub mod BundleLaws
-pub mod PlainLaws
-pub mod RefusalLaws
-pub mod OneFault
+pub mod LastLaws
 pub mod TextLaws

@@ -1,6 +1,6 @@
 -- Bytes are the text of one evidence, or have one first fault.
 use Rattle.std.proofs.Common.{◌≡◌, ◌≢◌, ℕ, ◌+◌, ◌-◌, ◌≤◌, List, [], ◌∷◌, ◌++◌, length, Bool, true, false, eqb, refl, sym, ap, subst, ◌∙◌, arith, append-nil, inl, inr}
-use Rattle.std.specs.Prelude.{Ok, Err, codes, ◌⊎◌}
+use Rattle.std.specs.Prelude.{Result, Ok, Err, IfOk, IfErr, codes, ◌⊎◌}
 use Rattle.std.proofs.lemmas.Bool.{eqb-true, eqb-false}
 use Rattle.std.proofs.lemmas.Fmt.{decimal_digit}
 use Rattle.ras_lines.specs.Lines.{line, lines_of}
@@ -12,19 +12,18 @@ use Rattle.ras_lines.proofs.Misfits.{not_all_fit, one_misfit}
 use Rattle.ras_lines.proofs.SectionLaws.{IsText, only_sound, only_nothing, only_fault, misfit_otherwise}
 use Rattle.ras_evidence.specs.declared.header.Header.{Header}
 use Rattle.ras_evidence.specs.declared.fault.EvidenceKind.{EvidenceKind}
-use Rattle.ras_evidence.specs.declared.fault.EvidenceKind.TheVariants.{Version, Text, Ended, Unbuilt}
+use Rattle.ras_evidence.specs.declared.fault.EvidenceKind.TheVariants.{Version, Text, Ended}
 use Rattle.ras_evidence.specs.declared.fault.EvidenceFault.{EvidenceFault}
 use Rattle.ras_evidence.specs.declared.value.Evidence.{Evidence}
+use Rattle.ras_evidence.specs.declared.reading.ReadError.{ReadError}
+use Rattle.ras_evidence.specs.declared.reading.ReadError.TheVariants.{Fault, Memory}
 use Rattle.ras_evidence.specs.Headers.{header, verdict_word}
 use Rattle.ras_evidence.specs.Endings.{last_of}
-use Rattle.ras_evidence.specs.Bundles.{IsHeaderOf}
-use Rattle.ras_evidence.specs.BundleFaults.{IsLineOf}
 use Rattle.ras_evidence.specs.EvidenceTexts.{verdict_of, parts_lines, evidence_lines, IsWritable, AreEvidenceLines, AreSomeEvidence, IsEvidenceText}
 use Rattle.ras_evidence.specs.EvidenceReading.{evidence}
-use Rattle.ras_evidence.specs.EvidenceFaults.{HasOtherVersion, IsTextFault, IsFirstFault, IsKindOf}
-use Rattle.ras_evidence.proofs.BundleLaws.{not_more, ended}
-use Rattle.ras_evidence.proofs.HeaderLaws.{header_found, read_again, never_both, same_read}
-use Rattle.ras_evidence.proofs.RefusalLaws.{one_header}
+use Rattle.ras_evidence.specs.EvidenceFaults.{IsHeaderOf, HasOtherVersion, IsLineOf, IsTextFault, IsFirstFault, IsKindOf, IsEnded, IsFaultBehind, IsReadFault}
+use Rattle.ras_evidence.proofs.LastLaws.{not_more, ended, lines_are}
+use Rattle.ras_evidence.proofs.HeaderLaws.{header_found, read_again, never_both, same_read, one_header}
 use Rattle.ras_evidence.proofs.KindLaws.{evidence_exact}
 
 -- What is read.
@@ -56,7 +55,7 @@ all_begin lines left m none = subst (Begins AreSomeEvidence) (sym (m.parts ∙ a
 again : (lines : List (List ℕ)) (e : Evidence) → AreEvidenceLines lines e → evidence lines ≡ Ok (e, [])
 again lines e t = ap evidence (t.text ∙ sym (append-nil (evidence_lines e))) ∙ evidence_exact.reads.again e [] t.writable tt
 
-one_on_lines : (lines : List (List ℕ)) (e d : Evidence) → AreEvidenceLines lines e → AreEvidenceLines lines d → e ≡ d
+pub one_on_lines : (lines : List (List ℕ)) (e d : Evidence) → AreEvidenceLines lines e → AreEvidenceLines lines d → e ≡ d
 one_on_lines lines e d s t = (same_read e d [] [] (sym (again lines e s) ∙ again lines d t)).0
 
 on_lines : (bytes rest : List ℕ) (lines : List (List ℕ)) (e : Evidence) → AreLines bytes lines rest → IsEvidenceText bytes e → AreEvidenceLines lines e × (rest ≡ [])
@@ -108,22 +107,18 @@ that_version lines rest h e ne = (h, header_found lines rest h e, ne)
 never_version : (lines left : List (List ℕ)) (rest : List ℕ) → HasOtherVersion lines → IsTextFault lines left rest Ended → ⊥
 never_version lines left rest other f = no_other lines f.1 other
 
-one_kind : (lines left other : List (List ℕ)) (rest : List ℕ) (k j : EvidenceKind) → IsTextFault lines left rest k → IsTextFault lines other rest j → (k ≡ j) × (left ≡ other)
+pub one_kind : (lines left other : List (List ℕ)) (rest : List ℕ) (k j : EvidenceKind) → IsTextFault lines left rest k → IsTextFault lines other rest j → (k ≡ j) × (left ≡ other)
 one_kind lines left other rest Version Version a b = (refl, a.1 ∙ sym b.1)
 one_kind lines left other rest Version Text a b = absurd (b.0 a.0)
 one_kind lines left other rest Version Ended a b = absurd (never_version lines other rest a.0 b)
-one_kind lines left other rest Version Unbuilt a b = absurd b
 one_kind lines left other rest Text Version a b = absurd (a.0 b.0)
 one_kind lines left other rest Text Text a b = (refl, one_misfit AreSomeEvidence lines left other a.2 b.2)
 one_kind lines left other rest Text Ended a b = absurd (not_all_fit AreSomeEvidence lines left a.2 a.1 b.1)
-one_kind lines left other rest Text Unbuilt a b = absurd b
 one_kind lines left other rest Ended Version a b = absurd (never_version lines left rest b.0 a)
 one_kind lines left other rest Ended Text a b = absurd (not_all_fit AreSomeEvidence lines other b.2 b.1 a.1)
 one_kind lines left other rest Ended Ended a b = (refl, a.0 ∙ sym b.0)
-one_kind lines left other rest Ended Unbuilt a b = absurd b
-one_kind lines left other rest Unbuilt j a b = absurd a
 
-same_line : (lines left : List (List ℕ)) (n m : ℕ) → IsLineOf lines left n → IsLineOf lines left m → n ≡ m
+pub same_line : (lines left : List (List ℕ)) (n m : ℕ) → IsLineOf lines left n → IsLineOf lines left m → n ≡ m
 same_line lines left n m a b = omega (arith, a, b)
 
 abbrev fault_of : ℕ → EvidenceKind → EvidenceFault
@@ -139,11 +134,10 @@ one_fault bytes f g a b =
 
 -- Never both.
 
-not_both : (lines left : List (List ℕ)) (rest : List ℕ) (k : EvidenceKind) → AreSomeEvidence lines → rest ≡ [] → IsTextFault lines left rest k → ⊥
+pub not_both : (lines left : List (List ℕ)) (rest : List ℕ) (k : EvidenceKind) → AreSomeEvidence lines → rest ≡ [] → IsTextFault lines left rest k → ⊥
 not_both lines left rest Version t none f = no_other lines (whole_begins lines t) f.0
 not_both lines left rest Text t none f = f.2.no_text t
 not_both lines left rest Ended t none f = f.2 t none
-not_both lines left rest Unbuilt t none f = f
 
 pub never_fault : (bytes : List ℕ) (e : Evidence) (f : EvidenceFault) → IsEvidenceText bytes e → IsFirstFault bytes f → ⊥
 never_fault bytes e f t fault =
@@ -157,48 +151,56 @@ pub left_fault : (lines left : List (List ℕ)) (rest : List ℕ) (k : EvidenceK
 left_fault lines left rest Text none m is = (none, is, m)
 left_fault lines left rest Ended none m is = (is, all_begin lines left m is, λ t. absurd (m.no_text t))
 left_fault lines left rest Version none m is = absurd is
-left_fault lines left rest Unbuilt none m is = absurd is
 
 -- the fault where a text stands, and behind it a line that is not ended
 pub unended_fault : (lines left : List (List ℕ)) (rest : List ℕ) (k : EvidenceKind) → AreSomeEvidence lines → left ≡ [] → rest ≢ [] → IsKindOf left k → IsTextFault lines left rest k
 unended_fault lines left rest Text t none some is = absurd (omega (arith, is, ap length none))
 unended_fault lines left rest Ended t none some is = (none, whole_begins lines t, λ u. some)
 unended_fault lines left rest Version t none some is = absurd is
-unended_fault lines left rest Unbuilt t none some is = absurd is
 
 -- the line where these are left
 line_where : (lines left : List (List ℕ)) → length left ≤ length lines → IsLineOf lines left (length lines + 1 - length left)
 line_where lines left le = omega (arith, le)
 
-abbrev Either : List ℕ → Type 0
-Either bytes = ((e : Evidence) × IsEvidenceText bytes e) ⊎ ((f : EvidenceFault) × IsFirstFault bytes f)
+-- lines are an evidence, behind which nothing stands, or have a fault
+abbrev pub AreOrFault : List (List ℕ) → List ℕ → Type 0
+AreOrFault lines rest =
+    ((e : Evidence) × AreEvidenceLines lines e × (rest ≡ [])) ⊎ ((left : List (List ℕ)) × (k : EvidenceKind) × (length left ≤ length lines) × IsTextFault lines left rest k)
 
-module _ (bytes rest : List ℕ) (lines : List (List ℕ)) (are : AreLines bytes lines rest) where
-  faulty : (left : List (List ℕ)) (k : EvidenceKind) → length left ≤ length lines → IsTextFault lines left rest k → Either bytes
-  faulty left k le fault = inr (fault_of (length lines + 1 - length left) k, record { lines = lines; rest = rest; are = are; left = left; fault = fault; line = line_where lines left le })
+module _ (lines : List (List ℕ)) (rest : List ℕ) where
+  misfit : (left : List (List ℕ)) → (HasOtherVersion lines → ⊥) → IsMisfit AreSomeEvidence lines left → AreOrFault lines rest
+  misfit [] none m = inr ([], Ended, omega arith, left_fault lines [] rest Ended none m refl)
+  misfit (l ∷ ls) none m = inr (l ∷ ls, Text, not_more lines m.front (l ∷ ls) m.parts, left_fault lines (l ∷ ls) rest Text none m (omega arith))
 
-  misfit : (left : List (List ℕ)) → (HasOtherVersion lines → ⊥) → IsMisfit AreSomeEvidence lines left → Either bytes
-  misfit [] none m = faulty [] Ended (omega arith) (left_fault lines [] rest Ended none m refl)
-  misfit (l ∷ ls) none m = faulty (l ∷ ls) Text (not_more lines m.front (l ∷ ls) m.parts) (left_fault lines (l ∷ ls) rest Text none m (omega arith))
+  fitting : (r : List ℕ) → rest ≡ r → (e : Evidence) → AreEvidenceLines lines e → AreOrFault lines rest
+  fitting [] is e t = inl (e, t, is)
+  fitting (b ∷ r) is e t = inr ([], Ended, omega arith, unended_fault lines [] rest Ended (e, t) refl (λ none. let k : b ∷ r ≡ [] = sym is ∙ none in cc) refl)
 
-  fitting : (r : List ℕ) → rest ≡ r → (e : Evidence) → AreEvidenceLines lines e → Either bytes
-  fitting [] is e t = inl (e, from_lines bytes rest lines e are t is)
-  fitting (b ∷ r) is e t = faulty [] Ended (omega arith) (unended_fault lines [] rest Ended (e, t) refl (λ none. let k : b ∷ r ≡ [] = sym is ∙ none in cc) refl)
-
-  by_reading : (o : Front (List ℕ) Evidence) → only evidence lines ≡ o → (HasOtherVersion lines → ⊥) → Either bytes
+  by_reading : (o : Front (List ℕ) Evidence) → only evidence lines ≡ o → (HasOtherVersion lines → ⊥) → AreOrFault lines rest
   by_reading (Ok p) is none = fitting rest refl p.0 (evidence_read lines p.1 p.0 is)
   by_reading (Err left) is none = misfit left none (evidence_fault lines left is)
 
-  by_version : (v : Bool) (h : Header) (behind : List (List ℕ)) → at_line header lines ≡ Ok (h, behind) → eqb h.version 1 ≡ v → Either bytes
+  by_version : (v : Bool) (h : Header) (behind : List (List ℕ)) → at_line header lines ≡ Ok (h, behind) → eqb h.version 1 ≡ v → AreOrFault lines rest
   by_version true h behind is e = by_reading (only evidence lines) refl (this_version lines behind h is (eqb-true h.version 1 e))
-  by_version false h behind is e = faulty lines Version (omega arith) (that_version lines behind h is (eqb-false h.version 1 e), refl)
+  by_version false h behind is e = inr (lines, Version, omega arith, (that_version lines behind h is (eqb-false h.version 1 e), refl))
 
-  by_header : (o : Front (List ℕ) Header) → at_line header lines ≡ o → Either bytes
+  by_header : (o : Front (List ℕ) Header) → at_line header lines ≡ o → AreOrFault lines rest
   by_header (Ok p) is = by_version (eqb p.0.version 1) p.0 p.1 is refl
   by_header (Err left) is = by_reading (only evidence lines) refl (none_other lines left is)
 
+pub lines_or_fault : (lines : List (List ℕ)) (rest : List ℕ) → AreOrFault lines rest
+lines_or_fault lines rest = by_header lines rest (at_line header lines) refl
+
+abbrev Either : List ℕ → Type 0
+Either bytes = ((e : Evidence) × IsEvidenceText bytes e) ⊎ ((f : EvidenceFault) × IsFirstFault bytes f)
+
+text_from : (bytes rest : List ℕ) (lines : List (List ℕ)) → AreLines bytes lines rest → AreOrFault lines rest → Either bytes
+text_from bytes rest lines are (inl t) = inl (t.0, from_lines bytes rest lines t.0 are t.1 t.2)
+text_from bytes rest lines are (inr f) =
+    inr (fault_of (length lines + 1 - length f.0) f.1, record { lines = lines; rest = rest; are = are; left = f.0; fault = f.3; line = line_where lines f.0 f.2 })
+
 pub text_or_fault : (bytes : List ℕ) → Either bytes
-text_or_fault bytes = let k = cut bytes in by_header bytes k.rest (lines_of bytes) k.are (at_line header (lines_of bytes)) refl
+text_or_fault bytes = let k = cut bytes in text_from bytes k.rest (lines_of bytes) k.are (lines_or_fault (lines_of bytes) k.rest)
 
 -- What is answered.
 
@@ -208,10 +210,33 @@ read_left lines left e = let m = evidence_fault lines left e in not_more lines m
 pub read_all : (lines rest : List (List ℕ)) (e : Evidence) → only evidence lines ≡ Ok (e, rest) → length rest ≤ length lines
 read_all lines rest e is = omega (arith, ap length (evidence_nothing lines rest e is))
 
-pub version_fault : (bytes : List ℕ) → HasOtherVersion (lines_of bytes) → IsFirstFault bytes (fault_of 1 Version)
-version_fault bytes other =
+-- the lines of bytes, seen as other lines with which they agree
+pub on_own_lines : (bytes : List ℕ) (behind left : List (List ℕ)) (f : EvidenceFault) → IsLineOf (lines_of bytes) left f.line
+    → ((rest : List ℕ) → AreLines bytes (lines_of bytes) rest → IsTextFault behind left rest f.kind)
+    → (lines : List (List ℕ)) (rest : List ℕ) → AreLines bytes lines rest → (l : List (List ℕ)) × IsTextFault behind l rest f.kind × IsLineOf lines l f.line
+on_own_lines bytes behind left f line fault lines rest are =
+    let same = lines_are bytes rest lines are in
+    (left, fault rest (subst (λ (ls : List (List ℕ)). AreLines bytes ls rest) (sym same) are), subst (λ (ls : List (List ℕ)). IsLineOf ls left f.line) same line)
+
+pub version_at : (bytes : List ℕ) (behind : List (List ℕ)) (n : ℕ) → HasOtherVersion behind → IsLineOf (lines_of bytes) behind n → IsFaultBehind bytes behind (Fault (fault_of n Version))
+version_at bytes behind n other line = on_own_lines bytes behind behind (fault_of n Version) line (λ rest are. (other, refl))
+
+-- what is answered where no lines were read before
+
+pub whole_text : (bytes : List ℕ) (r : Result Evidence ReadError) → IfOk r (AreEvidenceLines (lines_of bytes)) → IfOk r (λ e. IsEnded bytes) → IfOk r (IsEvidenceText bytes)
+whole_text bytes (Ok e) t h = let k = cut bytes in from_lines bytes k.rest (lines_of bytes) e k.are t (h (lines_of bytes) k.rest k.are)
+whole_text bytes (Err e) t h = tt
+
+first_fault : (bytes : List ℕ) (e : ReadError) → IsFaultBehind bytes (lines_of bytes) e → IsReadFault bytes e
+first_fault bytes (Fault f) fault =
     let k = cut bytes in
-    record { lines = lines_of bytes; rest = k.rest; are = k.are; left = lines_of bytes; fault = (other, refl); line = omega arith }
+    let g = fault (lines_of bytes) k.rest k.are in
+    record { lines = lines_of bytes; rest = k.rest; are = k.are; left = g.0; fault = g.1; line = g.2 }
+first_fault bytes (Memory e) fault = tt
+
+pub whole_fault : (bytes : List ℕ) (r : Result Evidence ReadError) → IfErr r (IsFaultBehind bytes (lines_of bytes)) → IfErr r (IsReadFault bytes)
+whole_fault bytes (Ok e) h = tt
+whole_fault bytes (Err e) h = first_fault bytes e h
 
 -- Worked texts, which are read by computing.
 

@@ -17,7 +17,7 @@ use Rattle.ras_evidence.specs.declared.value.Entry.{Entry}
 use Rattle.ras_evidence.specs.declared.value.Evidence.{Evidence}
 use Rattle.ras_evidence.specs.declared.value.Evidence.TheVariants.{Safe, Unsafe, Unknown}
 use Rattle.ras_evidence.specs.Headers.{verdict}
-use Rattle.ras_evidence.specs.SafeTexts.{to_end, safe_parts}
+use Rattle.ras_evidence.specs.SafeReading.{to_end, safe_parts}
 
 -- Entries.
 

@@ -1,13 +1,7 @@
 pub mod Headers
-pub mod SafeTexts
+pub mod SafeReading
 pub mod EvidenceTexts
 pub mod EvidenceReading
-pub mod SystemTexts
-pub mod SystemReading
-pub mod Numbers
-pub mod Bundles
-pub mod Refusals
-pub mod BundleFaults
 pub mod EvidenceFaults
 pub mod Endings
 pub mod Worked

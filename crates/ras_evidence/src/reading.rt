@@ -1,14 +1,12 @@
-ghost use Rattle.std.specs.Prelude.{◌≤◌, ◌<◌, length, IfOk, IfErr};
+ghost use Rattle.std.specs.Prelude.{◌≤◌, length, IfOk, IfErr};
 ghost use Rattle.ras_lines.specs.Lines.{lines_of};
-ghost use Rattle.ras_evidence.specs.BundleFaults.{IsLineOf};
-ghost use Rattle.ras_evidence.specs.EvidenceTexts.{IsEvidenceText};
-ghost use Rattle.ras_evidence.specs.EvidenceFaults.{AnswersVersion, IsKindOf, IsReadFault};
+ghost use Rattle.ras_evidence.specs.EvidenceTexts.{AreEvidenceLines, IsEvidenceText};
+ghost use Rattle.ras_evidence.specs.EvidenceFaults.{AnswersVersion, IsEnded, IsKindOf, IsFaultBehind, IsLineOf, IsReadFault};
 
-use crate::bundle::line_number;
-use crate::evidence::is_ended;
 use crate::fault::{EvidenceFault, EvidenceKind};
 use crate::header::Header;
 use crate::parts::only_evidence;
+use crate::places::{is_ended, line_number};
 use crate::value::Evidence;
 use ras_lines::{Lines, Stop, line_count};
 use std::alloc::{AllocError, Global};
@@ -54,22 +52,30 @@ fn fault_at(bytes: &[u8], rest: &[u8]) -> EvidenceFault
     EvidenceFault { line, kind }
 }
 
-/// The evidence of which the bytes are the text. Want of memory may come at any bytes.
-pub fn read_evidence(alloc: Global, bytes: &[u8]) -> Result<Evidence, ReadError>
-    ensures evidence { IfOk result (IsEvidenceText bytes.now) }
-    ensures fault { IfErr result (IsReadFault bytes.now) }
+/// The evidence that stands at the end of the bytes, behind lines that were read before. A fault's line is counted from the
+/// first of the bytes. Want of memory may come at any bytes.
+pub fn read_evidence_behind(
+    alloc: Global,
+    bytes: &[u8],
+    behind: &[u8],
+) -> Result<Evidence, ReadError>
+    requires { length (lines_of behind.now) ≤ length (lines_of bytes.now) }
+    ensures evidence { IfOk result (AreEvidenceLines (lines_of behind.now)) }
+    ensures ended { IfOk result (λ _. IsEnded bytes.now) }
+    ensures fault { IfErr result (IsFaultBehind bytes.now (lines_of behind.now)) }
 {
-    match has_other_version(alloc, bytes) {
+    match has_other_version(alloc, behind) {
         Ok(false) => {}
         Ok(true) => {
+            let line = line_number(bytes, behind);
             return Err(ReadError::Fault(EvidenceFault {
-                line: 1,
+                line,
                 kind: EvidenceKind::Version,
             }));
         }
         Err(error) => return Err(ReadError::Memory(error)),
     }
-    let mut lines = Lines { rest: bytes };
+    let mut lines = Lines { rest: behind };
     match only_evidence(&mut lines, alloc) {
         Ok(evidence) => {
             if is_ended(bytes) {
@@ -81,4 +87,12 @@ pub fn read_evidence(alloc: Global, bytes: &[u8]) -> Result<Evidence, ReadError>
         Err(Stop::Memory) => Err(ReadError::Memory(AllocError)),
         Err(Stop::Misfit) => Err(ReadError::Fault(fault_at(bytes, lines.rest))),
     }
+}
+
+/// The evidence of which the bytes are the text. Want of memory may come at any bytes.
+pub fn read_evidence(alloc: Global, bytes: &[u8]) -> Result<Evidence, ReadError>
+    ensures evidence { IfOk result (IsEvidenceText bytes.now) }
+    ensures fault { IfErr result (IsReadFault bytes.now) }
+{
+    read_evidence_behind(alloc, bytes, bytes)
 }

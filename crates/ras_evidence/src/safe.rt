@@ -1,6 +1,6 @@
 ghost use Rattle.ras_lines.specs.Lines.{lines_of};
 ghost use Rattle.ras_lines.specs.Fronts.{Reads};
-ghost use Rattle.ras_evidence.specs.SafeTexts.{safe as safe_first, safe_parts as parts_first};
+ghost use Rattle.ras_evidence.specs.SafeReading.{safe_parts as parts_first};
 
 use ras_lines::{Lines, Stop};
 use ras_logic::{Cube, List, Shared, Tree};
@@ -21,12 +21,4 @@ pub fn safe_parts(lines: &mut Lines<'_>, alloc: Global) -> Result<SafeEvidence, 
     let trees: List<Tree> = lines.section(alloc, b"trees")?;
     lines.fixed(b"end")?;
     Ok(SafeEvidence { formulas, trees })
-}
-
-/// From `evidence 1 safe` to `end`.
-pub fn safe(lines: &mut Lines<'_>, alloc: Global) -> Result<SafeEvidence, Stop>
-    ensures { Reads safe_first (lines_of lines.old.rest.now) (lines_of lines.new.rest.now) result }
-{
-    lines.fixed(b"evidence 1 safe")?;
-    safe_parts(lines, alloc)
 }

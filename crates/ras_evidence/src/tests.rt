@@ -1,205 +1,183 @@
-use crate::{BundleError, BundleKind, EvidenceFault, EvidenceKind, read_bundle};
-use std::alloc::{AllocError, Global};
-use std::test::Fail;
+use crate::{EvidenceFault, EvidenceKind, ReadError, read_evidence};
+use std::alloc::Global;
 
-// One variable, which is never assigned, and the unsafe formula `x != undef`.
-const BUNDLE: &[u8] = b"bundle 1
-sorts 1
-functions 0
-consts 0
-variables 1
-variable 0 none
-transitions 0
-unsafe 1
-cube 0 1 v0!=u0
-evidence 1 safe
+// Rows of a relation of jobs and users are never left with a job's wrong owner.
+const SAFE: &[u8] = b"evidence 1 safe
+formulas 1
+cube 1 0 1 r0.1!=r0.0/0
+trees 6
+tree leaf
+tree split 0 1 0 1 leaf
+tree leaf
+tree split 0 1 1 1 leaf
+tree leaf
+tree split 0 1 1 1 leaf
+end
+";
+
+// A split without children, which closes nothing.
+const BAD_TREE: &[u8] = b"evidence 1 safe
 formulas 1
 cube 0 1 v0!=u0
 trees 2
 tree leaf
-tree split 0 0 1 leaf
+tree split 0 0 0
 end
 ";
 
-// Each kind of line, with two sorts, functions, constants, variables, a disjunct without literals, and a long path.
-const ALL_LINES: &[u8] = b"bundle 1
-sorts 2
-functions 2
-function 0 1 total
-function 0 1 nullable
-consts 2 1 1
-variables 2
-variable 0 none
-variable 1 1
-transitions 1
-guard 2
-cube 0 0
-cube 0 2 v0/0=c0 v1!=v0/1
-updates 2
-update 0 u0
-update 1 v0/1
-unsafe 1
-cube 0 1 v1=u1
-evidence 1 safe
-formulas 0
-trees 1
-tree split 0 0 2 leaf split 7 2 0 4294967295 0
+// One job and two users, and a step that gives the job to the wrong one.
+const UNSAFE: &[u8] = b"evidence 1 unsafe
+sizes 2 2 1
+tables 1
+table 1 1
+constants 0
+vars 0
+relations 1
+rows 1
+row 2 0 0
+steps 1
+step 0 1 0 2 1 2
 end
 ";
 
-// The system part of the first bundle, of nine lines.
-const SYSTEM: &[u8] = b"bundle 1
-sorts 1
-functions 0
-consts 0
-variables 1
-variable 0 none
-transitions 0
-unsafe 1
-cube 0 1 v0!=u0
+// Three rows of one cell, and three steps.
+const THREE_STEPS: &[u8] = b"evidence 1 unsafe
+sizes 1 2
+tables 0
+constants 2 1 2
+vars 1 2
+relations 1
+rows 3
+row 1 0
+row 1 0
+row 1 0
+steps 3
+step 0 1 0 0
+step 0 1 1 0
+step 1 1 1 0
+end
 ";
 
-/// The line of the fault of the system part, where there is one.
-fn system_line(alloc: Global, bytes: &[u8]) -> Option<u64> {
-    match read_bundle(alloc, bytes) {
-        Err(
-            BundleError::System {
-                line,
-                kind: BundleKind::Text,
-            },
-        ) => Some(line),
+// A budget of one formula.
+const UNKNOWN: &[u8] = b"evidence 1 unknown
+budget 1
+cube 0 1 v0=c2
+sizes 1 3
+tables 0
+constants 3 1 2 3
+vars 1 3
+relations 0
+steps 0
+cube 0 1 v0=c1
+sizes 1 3
+tables 0
+constants 3 1 2 3
+vars 1 2
+relations 0
+steps 1
+step 0 0 0
+end
+";
+
+fn is_read(alloc: Global, bytes: &[u8]) -> bool {
+    read_evidence(alloc, bytes).is_ok()
+}
+
+/// The fault, where there is one.
+fn fault(alloc: Global, bytes: &[u8]) -> Option<EvidenceFault> {
+    match read_evidence(alloc, bytes) {
+        Err(ReadError::Fault(fault)) => Some(fault),
         _ => None,
     }
 }
 
-/// The fault of the evidence behind the system part, where there is one.
-fn evidence_fault(alloc: Global, evidence: &[u8]) -> Result<Option<EvidenceFault>, AllocError> {
-    let mut bytes = Vec::new(alloc);
-    bytes.extend_from_slice(SYSTEM)?;
-    bytes.extend_from_slice(evidence)?;
-    match read_bundle(alloc, &bytes) {
-        Err(BundleError::Evidence(fault)) => Ok(Some(fault)),
-        _ => Ok(None),
+#[test]
+fn evidences_of_each_kind_are_read(rt: HostRuntime) {
+    for bytes in [SAFE, BAD_TREE, UNSAFE, THREE_STEPS, UNKNOWN] {
+        assert!(rt; is_read(rt.alloc(), bytes));
     }
 }
 
 #[test]
-fn bundles_of_each_kind_of_line_are_read(rt: HostRuntime) -> Result<(), Fail> {
-    let small = read_bundle(rt.alloc(), BUNDLE)?;
-    assert_eq!(rt; (small.formulas.len(), small.trees.len()), (1, 2));
-    assert_eq!(rt; small.system.goals().len(), 1);
-    let large = read_bundle(rt.alloc(), ALL_LINES)?;
-    assert_eq!(rt; (large.formulas.len(), large.trees.len()), (0, 1));
-    assert_eq!(rt; large.system.transitions().len(), 1);
-    assert_eq!(rt; large.system.shape().schema().functions().len(), 2);
-    Ok(())
-}
-
-#[test]
-fn the_first_line_of_the_system_part_that_does_not_fit_is_named(rt: HostRuntime) {
+fn the_first_fault_is_named(rt: HostRuntime) {
     let cases = [
-        (b"".as_slice(), 1),
-        (b"bundle 1".as_slice(), 1),
-        (b"bundle 2\n".as_slice(), 1),
-        (b"bundle 1\n".as_slice(), 2),
-        (b"bundle 1\nsorts 01\n".as_slice(), 2),
-        (b"bundle 1\nsorts  1\n".as_slice(), 2),
-        (b"bundle 1\nsorts 4294967296\n".as_slice(), 2),
+        (b"".as_slice(), 1, EvidenceKind::Ended),
+        (b"nothing of the kind".as_slice(), 1, EvidenceKind::Ended),
+        (b"\n".as_slice(), 1, EvidenceKind::Text),
+        (b"evidence 2 safe\n".as_slice(), 1, EvidenceKind::Version),
         (
-            b"bundle 1\nsorts 1\nfunctions 1\nfunction 0 0 partial\n".as_slice(),
-            4,
-        ),
-        (
-            b"bundle 1\nsorts 1\nfunctions 0\nconsts 2 0\n".as_slice(),
-            4,
-        ),
-        (
-            b"bundle 1\nsorts 1\nfunctions 0\nconsts 0\nvariables 4294967295\n".as_slice(),
-            6,
-        ),
-    ];
-    for (bytes, line) in cases {
-        assert_eq!(rt; system_line(rt.alloc(), bytes), Some(line));
-    }
-}
-
-#[test]
-fn numbers_that_denote_no_system_are_told_apart(rt: HostRuntime) {
-    let cases = [
-        b"bundle 1\nsorts 65536\nfunctions 0\nconsts 0\nvariables 0\ntransitions 0\nunsafe 0\n".as_slice(),
-        b"bundle 1\nsorts 1\nfunctions 1\nfunction 0 0 total\nconsts 0\nvariables 0\ntransitions 0\nunsafe 0\n".as_slice(),
-        b"bundle 1\nsorts 1\nfunctions 0\nconsts 0\nvariables 0\ntransitions 1\nguard 0\nupdates 0\nunsafe 0\n".as_slice(),
-        b"bundle 1\nsorts 1\nfunctions 0\nconsts 0\nvariables 0\ntransitions 0\nunsafe 1\ncube 1 0 0\n".as_slice(),
-    ];
-    for bytes in cases {
-        assert!(rt; matches!(read_bundle(rt.alloc(), bytes), Err(BundleError::NoSystem)));
-    }
-}
-
-#[test]
-fn the_first_line_of_the_evidence_that_does_not_fit_is_named(rt: HostRuntime) -> Result<(), Fail> {
-    let cases = [
-        (b"".as_slice(), 10, EvidenceKind::Ended),
-        (b"evidence 2 safe\n".as_slice(), 10, EvidenceKind::Version),
-        (
-            b"evidence 0 unknown\n".as_slice(),
-            10,
+            b"evidence 0 unknown\nend\n".as_slice(),
+            1,
             EvidenceKind::Version,
         ),
-        (b"evidence 01 safe\n".as_slice(), 10, EvidenceKind::Text),
-        (b"evidence 2 safe".as_slice(), 10, EvidenceKind::Ended),
-        (b"evidence 1 unsafe\n".as_slice(), 10, EvidenceKind::Unbuilt),
+        (b"evidence 2 safe".as_slice(), 1, EvidenceKind::Ended),
+        (b"evidence 01 safe\n".as_slice(), 1, EvidenceKind::Text),
         (
-            b"evidence 1 unknown\nbudget 1\n".as_slice(),
-            10,
-            EvidenceKind::Unbuilt,
+            b"evidence 4294967296 unsafe\n".as_slice(),
+            1,
+            EvidenceKind::Text,
         ),
+        (b"evidence 2 sound\n".as_slice(), 1, EvidenceKind::Text),
         (
-            b"evidence 1 safe\nformu".as_slice(),
-            11,
+            b"evidence 1 safe\nformulas 1\ncube 0 1 v0".as_slice(),
+            3,
             EvidenceKind::Ended,
         ),
         (
-            b"evidence 1 safe\nformulas 01\n".as_slice(),
-            11,
-            EvidenceKind::Text,
-        ),
-        (
-            b"evidence 1 safe\nformulas  0\n".as_slice(),
-            11,
-            EvidenceKind::Text,
-        ),
-        (
-            b"evidence 1 safe\nformulas 1\ntrees 0\nend\n".as_slice(),
-            12,
-            EvidenceKind::Text,
-        ),
-        (
-            b"evidence 1 safe\nformulas 0\ntrees 1\ntree split 0 0 1\nend\n".as_slice(),
-            13,
-            EvidenceKind::Text,
-        ),
-        (
             b"evidence 1 safe\nformulas 0\ntrees 0\nend".as_slice(),
-            13,
+            4,
+            EvidenceKind::Ended,
+        ),
+        (
+            b"evidence 1 safe\nformulas 0\ntrees 0\nend\nend".as_slice(),
+            5,
             EvidenceKind::Ended,
         ),
         (
             b"evidence 1 safe\nformulas 0\ntrees 0\nend\nend\n".as_slice(),
-            14,
+            5,
             EvidenceKind::Text,
         ),
         (
-            b"evidence 1 safe\nformulas 0\ntrees 0\nend\nend".as_slice(),
-            14,
+            b"evidence 1 unsafe\nformulas 0\n".as_slice(),
+            2,
+            EvidenceKind::Text,
+        ),
+        (
+            b"evidence 1 unsafe\nsizes 1 01\n".as_slice(),
+            2,
+            EvidenceKind::Text,
+        ),
+        (
+            b"evidence 1 unsafe\nsizes 0\ntables 0\nconstants 0\nvars 0\nrelations 0\nsteps 1\nstep 65536 0 0\n".as_slice(),
+            8,
+            EvidenceKind::Text,
+        ),
+        (
+            b"evidence 1 unsafe\nsizes 0\ntables 0\nconstants 0\nvars 0\nrelations 1\nrows 4294967295\nrow 0\nrow 0\n".as_slice(),
+            10,
             EvidenceKind::Ended,
         ),
+        (
+            b"evidence 1 unknown\nbudget 0\n".as_slice(),
+            2,
+            EvidenceKind::Text,
+        ),
+        (
+            b"evidence 1 unknown\nbudget 4294967295\n".as_slice(),
+            3,
+            EvidenceKind::Ended,
+        ),
+        (
+            b"evidence 1 unknown\nbudget 1\ncube 0 0\nsizes 0\ntables 0\nconstants 0\nvars 0\nrelations 0\nsteps 0\nend\n".as_slice(),
+            10,
+            EvidenceKind::Text,
+        ),
     ];
-    for (evidence, line, kind) in cases {
+    for (bytes, line, kind) in cases {
         assert_eq!(rt;
-            evidence_fault(rt.alloc(), evidence)?,
+            fault(rt.alloc(), bytes),
             Some(EvidenceFault { line, kind })
         );
     }
-    Ok(())
 }

@@ -1,0 +1,11 @@
+pub mod SystemLaws
+pub mod LineLaws
+pub mod LeadLaws
+pub mod Places
+pub mod Walks
+pub mod NamedLaws
+pub mod CompleteLaws
+pub mod SoundLaws
+pub mod BundleLaws
+pub mod LengthLaws
+pub mod DenotedLaws

@@ -1,5 +1,0 @@
-use Rattle.ras_evidence.proofs.OneFault.{one_fault}
-use Rattle.ras_evidence.proofs.law.bytes_have_one_fault.Goals as goal
-
-pub returns : goal.returns
-returns c = one_fault
