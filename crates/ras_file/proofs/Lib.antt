@@ -1,2 +1,2 @@
-mod Cycles
+pub mod Cycles
 mod OneFault
