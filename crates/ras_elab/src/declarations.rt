@@ -11,7 +11,7 @@ ghost use Rattle.ras_numbering.specs.FileValues.{function_value, variable_value,
 ghost use Rattle.ras_elab.specs.Placing.{placed_name, placed_function, placed_initial, placed_variable, placed_column, placed_relation, placed_file};
 ghost use Rattle.ras_elab.specs.Answering.{Answers};
 ghost use Rattle.ras_elab.specs.Agreeing.{Agrees, IsSortText, IsOfSort, HasSortTexts, names_of_columns, sorts_of_columns};
-ghost use Rattle.ras_elab.specs.Declaring.{AreAbove, AreConstants, IsOfSortText, AreOfSort, declaration_checks};
+ghost use Rattle.ras_elab.specs.Declaring.{AreAbove, AreConstants, AreSchemaItems, IsOfSortText, AreOfSort, schema_checks, declaration_checks};
 
 use crate::cycles::leads;
 use crate::declared::{Declared, check_name, find_sort};
@@ -139,6 +139,32 @@ fn read_constants(
         read.add(name.text, sort)?;
     }
     Ok(read)
+}
+
+/// The sorts, the functions and the constants of a file, and the names that are shared so far.
+#[derive(Drop)]
+pub(crate) struct SchemaItems {
+    pub(crate) shared: NameSet,
+    pub(crate) sorts: NameSet,
+    pub(crate) functions: Table<FunDecl>,
+    pub(crate) constants: Table<SortId>,
+}
+
+/// The sorts, the functions and the constants of a file.
+fn read_schema(alloc: Global, file: &File) -> Result<SchemaItems, SpecError>
+    ensures checks { Answers (schema_checks (placed_file file.now)) result }
+    ensures items { IfOk result (AreSchemaItems (placed_file file.now)) }
+{
+    let mut shared = NameSet::new(alloc);
+    let sorts = read_sorts(alloc, &mut shared, file)?;
+    let functions = read_functions(alloc, &mut shared, &sorts, file)?;
+    let constants = read_constants(alloc, &mut shared, &sorts, file)?;
+    Ok(SchemaItems {
+        shared,
+        sorts,
+        functions,
+        constants,
+    })
 }
 
 /// The initial constant of a variable of a sort, if one is named.
@@ -342,18 +368,21 @@ pub(crate) fn read_declarations(alloc: Global, file: &File) -> Result<Declaratio
     ensures shared { IfOk result (λ d. d.declared.shared ≡ above_steps (placed_file file.now)) }
     ensures initial { let p = placed_file file.now in IfOk result (λ d. d.initial ≡ map (initial_value p) p.variables) }
 {
-    let mut shared = NameSet::new(alloc);
-    let sorts = read_sorts(alloc, &mut shared, file)?;
-    let functions = read_functions(alloc, &mut shared, &sorts, file)?;
-    let constants = read_constants(alloc, &mut shared, &sorts, file)?;
-    let vars = read_variables(alloc, &mut shared, &sorts, &constants, file)?;
-    let relations = read_relations(alloc, &mut shared, &sorts, file)?;
+    let mut items = read_schema(alloc, file)?;
+    let vars = read_variables(
+        alloc,
+        &mut items.shared,
+        &items.sorts,
+        &items.constants,
+        file,
+    )?;
+    let relations = read_relations(alloc, &mut items.shared, &items.sorts, file)?;
     Ok(Declarations {
         declared: Declared {
-            shared,
-            sorts,
-            functions,
-            constants,
+            shared: items.shared,
+            sorts: items.sorts,
+            functions: items.functions,
+            constants: items.constants,
             vars: vars.table,
             relations: relations.names,
             columns: relations.columns,

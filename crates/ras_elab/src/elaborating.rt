@@ -172,26 +172,13 @@ fn describe(
     ensures names { IfOk result (λ d. d.names ≡ names_with system declared steps goals) }
 {
     let relations = name_columns(alloc, &declared.relations, declared.columns.as_slice())?;
-    let Relations {
-        sorts: column_sorts,
-        names: relation_names,
-    } = relations;
-    let names = name_parts(alloc, system, &declared, relation_names, steps, goals)?;
-    let Declared {
-        shared: _,
-        sorts,
-        functions,
-        constants,
-        vars,
-        relations: _,
-        columns: _,
-    } = declared;
+    let names = name_parts(alloc, system, &declared, relations.names, steps, goals)?;
     Ok(Described {
-        sorts: sorts.count(),
-        functions: functions.into_values(),
-        constants: constants.into_values(),
-        vars: vars.into_values(),
-        relations: column_sorts,
+        sorts: declared.sorts.count(),
+        functions: declared.functions.into_values(),
+        constants: declared.constants.into_values(),
+        vars: declared.vars.into_values(),
+        relations: relations.sorts,
         names,
     })
 }

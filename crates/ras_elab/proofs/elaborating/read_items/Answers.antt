@@ -15,7 +15,7 @@ steps p = for_each (step_checks p) p.steps
 abbrev goals : placed.File → List Check
 goals p = for_each (goal_checks p) p.goals
 
-joined : (a b c d e rest : List Check) → (a ++ (b ++ (c ++ (d ++ e)))) ++ rest ≡ a ++ (b ++ (c ++ (d ++ (e ++ rest))))
+joined : (a b c d e rest : List Check) → ((a ++ (b ++ c)) ++ (d ++ e)) ++ rest ≡ a ++ (b ++ (c ++ (d ++ (e ++ rest))))
 joined a b c d e rest = simp append_assoc
 
 -- the items above the steps, and then the steps and the goals
