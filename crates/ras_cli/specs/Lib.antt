@@ -1,5 +1,6 @@
 pub mod Words
-pub mod Putting
+pub mod Answers
 pub mod Outcomes
-pub mod Judgements
-pub mod Printing
+pub mod Loads
+pub mod Done
+pub mod Putting

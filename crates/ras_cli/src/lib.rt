@@ -2,10 +2,13 @@
 //! and a status: the program uses the contract of `verify_quiet`.
 #![tactic(auto)]
 
-mod judgement;
+mod commands;
+#[cfg(test)]
+mod evidence_tests;
+mod judging;
 mod law;
+mod loading;
 mod outcome;
-mod printing;
 mod putting;
 #[cfg(test)]
 mod tests;

@@ -25,25 +25,6 @@ tree split 0 0 1 leaf
 end
 ";
 
-// The same with a leaf in place of the last tree.
-const OPEN_GOAL: &[u8] = b"bundle 1
-sorts 1
-functions 0
-consts 0
-variables 1
-variable 0 none
-transitions 0
-unsafe 1
-cube 0 1 v0!=u0
-evidence 1 safe
-formulas 1
-cube 0 1 v0!=u0
-trees 2
-tree leaf
-tree leaf
-end
-";
-
 // Three constants, a variable that is the first of them, a step from the second to the third, and the third is unsafe.
 const ONE_STEP: &[u8] = b"bundle 1
 sorts 1
@@ -71,7 +52,8 @@ tree leaf
 end
 ";
 
-const USAGE: &[u8] = b"REFUSED words\nusage:\n  rasprove check BUNDLE\n  rasprove print FILE\n";
+const USAGE: &[u8] =
+    b"REFUSED words\nusage:\n  rasprove check FILE EVIDENCE\n  rasprove check BUNDLE\n  rasprove replay FILE EVIDENCE\n  rasprove print FILE\n";
 
 fn words_of(alloc: Global, words: &[&str]) -> Result<Vec<String>, AllocError> {
     let mut all = Vec::new(alloc);
@@ -128,15 +110,6 @@ fn prints<R: Threads + Sync>(
     ends(rt, alloc, &["print", "b"], content, status, written)
 }
 
-#[test]
-fn good_evidence_is_valid_and_all_else_is_not(rt: HostRuntime) -> Result<(), Fail> {
-    let alloc = rt.alloc();
-    assert!(rt; checks(&rt, alloc, ONE_VARIABLE, 0, b"VALID SAFE\n")?);
-    assert!(rt; checks(&rt, alloc, ONE_STEP, 0, b"VALID SAFE\n")?);
-    assert!(rt; checks(&rt, alloc, OPEN_GOAL, 31, b"INVALID\n")?);
-    Ok(())
-}
-
 /// The texts, one behind the other.
 fn joined(alloc: Global, texts: &[&[u8]]) -> Result<Vec<u8>, AllocError> {
     let mut all = Vec::new(alloc);
@@ -146,81 +119,8 @@ fn joined(alloc: Global, texts: &[&[u8]]) -> Result<Vec<u8>, AllocError> {
     Ok(all)
 }
 
-#[test]
-fn what_is_no_evidence_is_told_from_what_is_not_good(rt: HostRuntime) -> Result<(), Fail> {
-    let alloc = rt.alloc();
-    let cases = [
-        (b"".as_slice(), b"REFUSED evidence\n".as_slice()),
-        (
-            b"evidence 1 safe\nformulas 1\ncube 0 1 v0".as_slice(),
-            b"REFUSED evidence\n",
-        ),
-        (
-            b"evidence 1 safe\nformulas 01\n".as_slice(),
-            b"REFUSED evidence\n",
-        ),
-        (
-            b"evidence 1 safe\nformulas  0\n".as_slice(),
-            b"REFUSED evidence\n",
-        ),
-        (
-            b"evidence 1 safe\nformulas 0\ntrees 0\nend".as_slice(),
-            b"REFUSED evidence\n",
-        ),
-        (
-            b"evidence 1 safe\nformulas 0\ntrees 0\nend\njournal 0\n".as_slice(),
-            b"REFUSED evidence\n",
-        ),
-        (b"evidence 2 safe\n".as_slice(), b"REFUSED evidence\n"),
-        (b"evidence 1 unsafe".as_slice(), b"REFUSED evidence\n"),
-        (
-            b"evidence 1 unsafe\n".as_slice(),
-            b"REFUSED evidence UNBUILT\n",
-        ),
-        (
-            b"evidence 1 unknown\nbudget".as_slice(),
-            b"REFUSED evidence UNBUILT\n",
-        ),
-        (
-            b"evidence 1 safe\nformulas 0\ntrees 0\nend\n".as_slice(),
-            b"INVALID\n",
-        ),
-    ];
-    let system =
-        b"bundle 1\nsorts 1\nfunctions 0\nconsts 0\nvariables 0\ntransitions 0\nunsafe 1\ncube 0 0\n";
-    for (evidence, written) in cases {
-        let content = joined(alloc, &[system, evidence])?;
-        assert!(rt; checks(&rt, alloc, &content, 31, written)?);
-    }
-    Ok(())
-}
-
 // An evidence of safety for systems without goals.
 const NOTHING_UNSAFE: &[u8] = b"evidence 1 safe\nformulas 0\ntrees 0\nend\n";
-
-#[test]
-fn a_system_part_that_denotes_no_system_is_refused(rt: HostRuntime) -> Result<(), Fail> {
-    let alloc = rt.alloc();
-    let systems = [
-        b"".as_slice(),
-        b"bundle 1\n".as_slice(),
-        // a number with a leading zero, and two blanks
-        b"bundle 1\nsorts 01\nfunctions 0\nconsts 0\nvariables 0\ntransitions 0\nunsafe 0\n".as_slice(),
-        b"bundle 1\nsorts  1\nfunctions 0\nconsts 0\nvariables 0\ntransitions 0\nunsafe 0\n".as_slice(),
-        // a function that closes a cycle with the one before
-        b"bundle 1\nsorts 2\nfunctions 2\nfunction 0 1 total\nfunction 1 0 nullable\nconsts 0\nvariables 0\ntransitions 0\nunsafe 0\n".as_slice(),
-        // an initial constant of another sort
-        b"bundle 1\nsorts 2\nfunctions 0\nconsts 1 1\nvariables 1\nvariable 0 0\ntransitions 0\nunsafe 0\n".as_slice(),
-        b"bundle 1\nsorts 1\nfunctions 0\nconsts 0\nvariables 0\ntransitions 1\nguard 0\nupdates 0\nunsafe 0\n".as_slice(),
-        // a variable that is assigned twice
-        b"bundle 1\nsorts 1\nfunctions 0\nconsts 0\nvariables 1\nvariable 0 none\ntransitions 1\nguard 1\ncube 0 0\nupdates 2\nupdate 0 u0\nupdate 0 u0\nunsafe 0\n".as_slice(),
-    ];
-    for system in systems {
-        let content = joined(alloc, &[system, NOTHING_UNSAFE])?;
-        assert!(rt; checks(&rt, alloc, &content, 30, b"REFUSED bundle\n")?);
-    }
-    Ok(())
-}
 
 /// A text so many times.
 fn times(alloc: Global, text: &[u8], count: usize) -> Result<Vec<u8>, AllocError> {
@@ -239,17 +139,19 @@ fn counts<R: Threads + Sync>(
     item: &[u8],
     count: usize,
     behind: &[u8],
-    status: u8,
+    written: &[u8],
 ) -> Result<bool, Fail> {
     let items = times(alloc, item, count)?;
     let content = joined(
         alloc,
         &[b"bundle 1\n", front, &items, behind, NOTHING_UNSAFE],
     )?;
-    let written = match status {
-        0 => b"VALID SAFE\n".as_slice(),
-        30 => b"REFUSED bundle\n".as_slice(),
-        _ => b"INVALID\n".as_slice(),
+    let status = if written.starts_with(b"VALID") {
+        0
+    } else if written.starts_with(b"REFUSED") {
+        30
+    } else {
+        31
     };
     checks(rt, alloc, &content, status, written)
 }
@@ -257,43 +159,33 @@ fn counts<R: Threads + Sync>(
 #[test]
 fn each_limit_is_kept_and_not_passed(rt: HostRuntime) -> Result<(), Fail> {
     let alloc = rt.alloc();
+    let valid = b"VALID SAFE\n";
+    let open = b"INVALID trees COUNT\n";
     let rest = b"consts 0\nvariables 0\ntransitions 0\nunsafe 0\n";
+    let none = b"functions 0\n";
+    let sorts = joined(alloc, &[none, rest])?;
+    let refused = b"REFUSED bundle LINE 2 LIMIT\n";
+    assert!(rt; counts(&rt, alloc, b"sorts 64\n", b"", 0, &sorts, valid)?);
+    assert!(rt; counts(&rt, alloc, b"sorts 65\n", b"", 0, &sorts, refused)?);
     let function = b"function 0 1 total\n";
-    assert!(rt; counts(&rt, alloc, b"sorts 64\nfunctions 0\n", b"", 0, rest, 0)?);
-    assert!(rt; counts(&rt, alloc, b"sorts 65\nfunctions 0\n", b"", 0, rest, 30)?);
-    assert!(rt;
-        counts(
-            &rt,
-            alloc,
-            b"sorts 2\nfunctions 256\n",
-            function,
-            256,
-            rest,
-            0
-        )?
-    );
-    assert!(rt;
-        counts(
-            &rt,
-            alloc,
-            b"sorts 2\nfunctions 257\n",
-            function,
-            257,
-            rest,
-            30
-        )?
-    );
+    let most = b"sorts 2\nfunctions 256\n";
+    let more = b"sorts 2\nfunctions 257\n";
+    let refused = b"REFUSED bundle LINE 3 LIMIT\n";
+    assert!(rt; counts(&rt, alloc, most, function, 256, rest, valid)?);
+    assert!(rt; counts(&rt, alloc, more, function, 257, rest, refused)?);
     let variable =
         b"sorts 1\nfunctions 0\nconsts 0\nvariables 1\nvariable 0 none\ntransitions 0\nunsafe 1\n";
     let most = joined(alloc, &[variable, b"cube 0 128"])?;
     let more = joined(alloc, &[variable, b"cube 0 129"])?;
-    assert!(rt; counts(&rt, alloc, &most, b" v0=v0", 128, b"\n", 31)?);
-    assert!(rt; counts(&rt, alloc, &more, b" v0=v0", 129, b"\n", 30)?);
+    let refused = b"REFUSED bundle LINE 9 LIMIT\n";
+    assert!(rt; counts(&rt, alloc, &most, b" v0=v0", 128, b"\n", open)?);
+    assert!(rt; counts(&rt, alloc, &more, b" v0=v0", 129, b"\n", refused)?);
     let goals = b"sorts 1\nfunctions 0\nconsts 0\nvariables 0\ntransitions 0\nunsafe ";
     let most = joined(alloc, &[goals, b"64\n"])?;
     let more = joined(alloc, &[goals, b"65\n"])?;
-    assert!(rt; counts(&rt, alloc, &most, b"cube 0 0\n", 64, b"", 31)?);
-    assert!(rt; counts(&rt, alloc, &more, b"cube 0 0\n", 65, b"", 30)?);
+    let refused = b"REFUSED bundle LINE 7 LIMIT\n";
+    assert!(rt; counts(&rt, alloc, &most, b"cube 0 0\n", 64, b"", open)?);
+    assert!(rt; counts(&rt, alloc, &more, b"cube 0 0\n", 65, b"", refused)?);
     Ok(())
 }
 
@@ -304,17 +196,20 @@ fn words_of_no_command_are_refused_with_the_usage_lines(rt: HostRuntime) -> Resu
     let refused = [
         none,
         &["check"],
-        &["check", "a", "b"],
+        &["check", "a", "b", "c"],
         &["check", "-x"],
         &["check", "--"],
-        &["check", "--", "a", "b"],
+        &["check", "-x", "--", "a"],
+        &["check", "--", "a", "b", "--"],
         &["print"],
+        &["print", "a", "b"],
         &["print", "--x", "--"],
+        &["replay", "b"],
         &["verify", "b"],
     ];
     for words in refused {
         let mut shelf = shelf_of(alloc, ONE_VARIABLE, &[])?;
-        let mut out = MemSink::new(alloc, 100, Vec::new(alloc))?;
+        let mut out = MemSink::new(alloc, 200, Vec::new(alloc))?;
         let words = words_of(alloc, words)?;
         assert_eq!(rt; verify_quiet(&rt, alloc, &words, &mut shelf, &mut out), 40);
         assert_eq!(rt; out.written(), USAGE);
@@ -332,6 +227,21 @@ fn the_name_of_a_file_may_stand_behind_two_dashes(rt: HostRuntime) -> Result<(),
     assert!(rt; ends(&rt, alloc, &["check", "-"], ONE_VARIABLE, 50, dash)?);
     let option = b"REFUSED read -x\n";
     assert!(rt; ends(&rt, alloc, &["print", "--", "-x"], ONE_VARIABLE, 50, option)?);
+    assert!(rt; ends(&rt, alloc, &["replay", "-x"], ONE_VARIABLE, 40, USAGE)?);
+    assert!(rt;
+        ends(
+            &rt,
+            alloc,
+            &["replay", "--", "-x", "b"],
+            ONE_VARIABLE,
+            50,
+            option
+        )?
+    );
+    let dashes = b"REFUSED read --\n";
+    assert!(rt; ends(&rt, alloc, &["check", "--", "--"], ONE_VARIABLE, 50, dashes)?);
+    let empty = b"REFUSED read \n";
+    assert!(rt; ends(&rt, alloc, &["check", ""], ONE_VARIABLE, 50, empty)?);
     Ok(())
 }
 

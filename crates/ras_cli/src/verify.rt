@@ -1,48 +1,22 @@
-ghost use Rattle.std.specs.Prelude.{◌≡◌, ◌≢◌, ◌⊎◌, ◌≤◌, ℕ, List, length, IfOk};
+ghost use Rattle.std.specs.Prelude.{◌≡◌, ◌≢◌, ◌⊎◌, ◌≤◌, ℕ, List, IfOk, MatchResult};
 ghost use Rattle.std.specs.Io.KnownBytes.{append_known};
 ghost use Rattle.ras_outside.specs.Count.{Rose};
-ghost use Rattle.ras_outside.specs.Told.{holds, HoldsMoreThan};
 ghost use Rattle.ras_cli.specs.declared.outcome.Outcome.{Outcome};
-ghost use Rattle.ras_cli.specs.Words.{texts, Asks, IsNoCommand};
+ghost use Rattle.ras_cli.specs.Words.{texts, Request, Asks, IsNoCommand};
 ghost use Rattle.ras_cli.specs.Putting.{PutsFront};
-ghost use Rattle.ras_cli.specs.declared.words.Command as command;
-ghost use Rattle.ras_cli.specs.declared.words.Command.TheVariants.{Check};
-ghost use Rattle.ras_cli.specs.Judgements.{IsValidBundle};
-ghost use Rattle.ras_cli.specs.Outcomes.{longest, status_of, text_of, ComesTo, Loads, IsTooLong, IsNotRead, Comes, IsDone, IsNoSystem, IsNotGood, AnyCommand, CheckAlone, ToldToComeTo, IsCutOff};
+ghost use Rattle.ras_cli.specs.Answers.{status_of, text_of};
+ghost use Rattle.ras_cli.specs.Loads.{CountsStand, StandUnless, StandOrRose, Comes, ToldToComeTo, IsCutOff};
+ghost use Rattle.ras_cli.specs.Done.{IsDone};
 
-use crate::judgement::judged;
-use crate::law::a_file_comes_to_one_answer;
+use crate::commands::carried_out;
+use crate::law::told_files_come_to_one_answer;
+use crate::loading::Halt;
 use crate::outcome::Outcome;
-use crate::printing::{Printing, print_file};
 use crate::putting::put_text;
-use crate::words::{Command, asked};
-use ras_outside::{LoadFault, Shelf, Sink};
+use crate::words::asked;
+use ras_outside::{Shelf, Sink};
 use std::alloc::{AllocError, Global};
 use std::thread::Threads;
-
-/// The length of the longest file that is loaded: that of the longest `Vec<u8>`, or that of the longest specification.
-fn most(command: Command) -> u64
-    ensures { result ≡ longest command }
-{
-    match command {
-        Command::Check => 9_223_372_036_854_775_807,
-        Command::Print => 1_048_576,
-    }
-}
-
-/// What a file of these bytes comes to.
-fn done<'a>(alloc: Global, command: Command, bytes: &[u8]) -> Result<Outcome<'a>, AllocError>
-    requires { length bytes.now ≤ longest command }
-    ensures { IfOk result (ComesTo command bytes.now) }
-{
-    match command {
-        Command::Check => Ok(Outcome::Judged(judged(alloc, bytes)?)),
-        Command::Print => match print_file(alloc, bytes)? {
-            Printing::Text(text) => Ok(Outcome::Printed(text)),
-            Printing::Fault(fault) => Ok(Outcome::Refused(fault)),
-        },
-    }
-}
 
 /// What comes of the words.
 fn outcome<'a, H: Shelf>(
@@ -53,33 +27,35 @@ fn outcome<'a, H: Shelf>(
     ensures comes { IfOk result (Comes (texts words.now) (H.told shelf.old) (H.faults shelf.old) (H.faults shelf.new)) }
     ensures held { (name : List ℕ) → H.told shelf.new name ≡ H.told shelf.old name }
     ensures grows { (name : List ℕ) → H.faults shelf.old name ≤ H.faults shelf.new name }
-    ensures stands { IfOk result (λ o. status_of o ≢ 50 → (name : List ℕ) → H.faults shelf.new name ≡ H.faults shelf.old name) }
+    ensures stands { MatchResult result (StandUnless (H.faults shelf.old) (H.faults shelf.new)) (λ e. CountsStand (H.faults shelf.old) (H.faults shelf.new)) }
 {
-    let Some((command, name)) = asked(words) else {
+    let Some(task) = asked(words) else {
         return Ok(Outcome::NoCommand);
     };
-    match shelf.load(alloc, name, most(command)) {
-        Ok(bytes) => done(alloc, command, &bytes),
-        Err(LoadFault::Failed) => Ok(Outcome::NotRead { name }),
-        Err(LoadFault::TooLong) => Ok(Outcome::TooLong { name }),
-        Err(LoadFault::Memory(error)) => Err(error),
+    match carried_out(alloc, shelf, task) {
+        Ok(outcome) => Ok(outcome),
+        Err(Halt::Ended(outcome)) => Ok(outcome),
+        Err(Halt::Memory(error)) => Err(error),
     }
 }
 
-/// Carries out the words of the command line: loads the file that they name from the shelf, does with it what they ask for,
-/// writes one text to the sink in pieces of 4,096 bytes, and answers the status.
+/// Carries out the words of the command line: loads the files that they name from the shelf, an evidence only behind a
+/// specification that denotes a system, does with them what the words ask for, writes one text to the sink in pieces of
+/// 4,096 bytes, and answers the status.
 ///
 /// | Status | Text | Comes |
 /// |---|---|---|
-/// | 0 | `VALID SAFE` | of `check` where the file is a bundle with a good evidence of safety |
+/// | 0 | `VALID SAFE`, `VALID UNSAFE` | of `check` where the evidence is good |
+/// | 0 | the states of the run and the goal met | of `replay` where the evidence is a violation |
 /// | 0 | the canonical text | of `print` where the file denotes a system |
-/// | 30 | `REFUSED bundle` | of `check` where the file's system part denotes no system |
-/// | 30 | `REFUSED file AT P KIND` | of `print` where the file denotes none: its first fault |
-/// | 31 | `REFUSED evidence` | of `check` where no evidence stands behind the system part |
-/// | 31 | `REFUSED evidence UNBUILT` | where an evidence of another kind than safety stands there |
-/// | 31 | `INVALID` | where the evidence of safety is not good |
-/// | 32 | `REFUSED long NAME` | where the file is longer than the longest `Vec<u8>`, or for `print` than 1,048,576 bytes |
-/// | 40 | `REFUSED words` and the usage lines | where the words are not `check` or `print` and a file |
+/// | 30 | `REFUSED file AT P KIND` | where the specification denotes no system: its first fault |
+/// | 30 | `REFUSED bundle LINE N KIND` | where the system part of the bundle denotes none: the line of its first fault |
+/// | 31 | `REFUSED evidence LINE N KIND` | where no text of an evidence stands there: the line of its first fault |
+/// | 31 | `REFUSED evidence LINE N UNBUILT` | of `check` where such an evidence is not judged yet |
+/// | 31 | `REFUSED evidence LINE 1 NO_RUN` | of `replay` where the evidence is none of a violation |
+/// | 31 | an `INVALID` line | where the evidence is not good: its first fault |
+/// | 32 | `REFUSED long NAME` | where an evidence is longer than the longest `Vec<u8>`, or a specification than 1,048,576 bytes |
+/// | 40 | `REFUSED words` and the usage lines | where the words are of the form of no command |
 /// | 50 | `REFUSED read NAME` | where the shelf failed |
 /// | 51 | a front of a text | where the sink failed |
 /// | 60 | none | where memory is wanting |
@@ -90,40 +66,32 @@ pub fn verify_quiet<R: Threads + Sync, H: Shelf, K: Sink>(
     shelf: &mut H,
     out: &mut K,
 ) -> u8
-    // The headline: the system of a bundle that was found valid is safe.
-    ensures safe { result ≡ 0 → (name content : List ℕ) → Asks (texts words.now) Check name → H.told shelf.old name ≡ holds content → IsValidBundle content }
+    // What status 0 means, where the shelf tells of the files: a good evidence, and then the system is safe or is not as it says.
+    ensures done { result ≡ 0 → (request : Request) → Asks (texts words.now) request → IsDone (H.told shelf.old) request }
 
-    // When each status comes.
-    ensures done { result ≡ 0 → Loads (texts words.now) (H.told shelf.old) AnyCommand IsDone }
-    ensures no_system { result ≡ 30 → Loads (texts words.now) (H.told shelf.old) AnyCommand IsNoSystem }
-    ensures not_good { result ≡ 31 → Loads (texts words.now) (H.told shelf.old) CheckAlone IsNotGood }
-    ensures too_long { result ≡ 32 → (name : List ℕ) × IsTooLong (texts words.now) (H.told shelf.old) name }
-    ensures no_command { result ≡ 40 → IsNoCommand (texts words.now) }
-    ensures not_read { result ≡ 50 → (name : List ℕ) × IsNotRead (texts words.now) (H.faults shelf.old) (H.faults shelf.new) name }
-    ensures not_written { result ≡ 51 → Rose (K.faults out.old) (K.faults out.new) }
-
-    // What always leads to a status, where nothing else is in the way.
-    ensures every_no_command { IsNoCommand (texts words.now) → (result ≡ 40) ⊎ IsCutOff result }
-    ensures every_too_long { (c : command.Command) (name : List ℕ) → Asks (texts words.now) c name → HoldsMoreThan (H.told shelf.old name) (longest c)
-        → (result ≡ 32) ⊎ ((result ≡ 50) ⊎ IsCutOff result) }
-    ensures every_told { (o : Outcome) → ToldToComeTo (texts words.now) (H.told shelf.old) o
-        → ((result ≡ status_of o) × (K.written out.new ≡ append_known (K.written out.old) (text_of o))) ⊎ ((result ≡ 50) ⊎ IsCutOff result) }
-
-    // What is written.
+    // Each status comes of an outcome, whose text is written. The sink may fail, or memory be wanting.
     ensures whole { ¬ IsCutOff result → (o : Outcome) × Comes (texts words.now) (H.told shelf.old) (H.faults shelf.old) (H.faults shelf.new) o
         × (result ≡ status_of o) × (K.written out.new ≡ append_known (K.written out.old) (text_of o)) }
     ensures front { result ≡ 51 → (o : Outcome) × Comes (texts words.now) (H.told shelf.old) (H.faults shelf.old) (H.faults shelf.new) o
         × PutsFront (K.written out.old) (K.written out.new) (text_of o) }
     ensures nothing { result ≡ 60 → K.written out.new ≡ K.written out.old }
+    ensures not_written { result ≡ 51 → Rose (K.faults out.old) (K.faults out.new) }
 
-    // What is left as it was: all that the shelf holds, and the counts of faults of what did not fail.
+    // What the words and the told files come to is answered, where no load and no put fails and memory is not wanting.
+    ensures every_no_command { IsNoCommand (texts words.now) → (result ≡ 40) ⊎ IsCutOff result }
+    ensures every_told { (o : Outcome) → ToldToComeTo (texts words.now) (H.told shelf.old) o
+        → ((result ≡ status_of o) × (K.written out.new ≡ append_known (K.written out.old) (text_of o))) ⊎ ((result ≡ 50) ⊎ IsCutOff result) }
+
+    // What is left as it was: all that the shelf holds, its counts of faults where no load failed, and that of the sink where
+    // no put did.
     ensures held { (name : List ℕ) → H.told shelf.new name ≡ H.told shelf.old name }
     ensures grows { (name : List ℕ) → H.faults shelf.old name ≤ H.faults shelf.new name }
-    ensures stands { ¬ IsCutOff result → result ≢ 50 → (name : List ℕ) → H.faults shelf.new name ≡ H.faults shelf.old name }
+    ensures stands { ¬ IsCutOff result → result ≢ 50 → CountsStand (H.faults shelf.old) (H.faults shelf.new) }
+    ensures rose { StandOrRose (texts words.now) (H.faults shelf.old) (H.faults shelf.new) }
     ensures put { result ≢ 51 → K.faults out.new ≡ K.faults out.old }
 {
     let _ = rt;
-    a_file_comes_to_one_answer();
+    told_files_come_to_one_answer();
     let Ok(outcome) = outcome(alloc, words, shelf) else {
         return 60;
     };

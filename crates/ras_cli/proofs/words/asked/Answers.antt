@@ -1,13 +1,22 @@
-use Rattle.std.proofs.Common.{ℕ, List, sym, ◌∙◌, ap, subst}
-use Rattle.std.specs.Prelude.{string_bytes}
-use Rattle.ras_cli.specs.Words.{texts, command_word, NamesFile}
-use Rattle.ras_cli.specs.declared.words.Command.{Command}
-use Rattle.ras_cli.proofs.Judging.{behind-first}
+use Rattle.std.proofs.Common.{ℕ, List, [], ◌∷◌, sym, ◌∙◌, ap, subst}
+use Rattle.ras_cli.specs.Words.{Request, texts, named_by, NamesFiles, IsCommand, IsNoCommand}
+use Rattle.ras_cli.specs.declared.words.OneOrTwo.{OneOrTwo}
+use Rattle.ras_cli.proofs.Naming.{asked_behind, if_none}
 use Rattle.ras_cli.proofs.words.asked.Goals as goal
 
-pub returns-in_err-name-clause-none : goal.returns-in_err-name-clause-none
-returns-in_err-name-clause-none c =
-    rw c.from_residual-in_err-name.ensures
-    (λ (command : Command) (name : List ℕ) h.
-    let none : ¬ NamesFile (texts c.in_ok-first.behind.now) name = c.in_err-name.ensures.none name in
-    none (subst (λ (ws : List (List ℕ)). NamesFile ws name) (behind-first (command_word command) (string_bytes c.in_ok-first.first.now) h.behind (texts c.in_ok-first.behind.now) (sym h.parts ∙ ap texts c.in_ok-first.ensures.cases.0)) h.file))
+pub returns-in-One-clause-none : goal.returns-in-One-clause-none
+returns-in-One-clause-none c =
+    let parts = ap texts c.in_ok-command.ensures.cases.0 ∙ ap (λ (w : List ℕ). w ∷ texts c.in_ok-command.behind.now) (sym c.as_str.ensures.value) in
+    if_none c.of_one.result ((r : Request) → ¬ IsCommand c.as_str.result.now (c.in-One.file.now ∷ []) r) (IsNoCommand (texts c.args.words.now))
+    (λ none request asks. none request (asked_behind (texts c.args.words.now) c.as_str.result.now (texts c.in_ok-command.behind.now) (c.in-One.file.now ∷ []) request parts
+    (subst (λ (f : OneOrTwo). NamesFiles (texts c.in_ok-command.behind.now) (named_by f)) c.in-One.is c.in_ok-file.ensures.some) asks))
+    c.of_one.ensures.none
+
+pub returns-in-Two-clause-none : goal.returns-in-Two-clause-none
+returns-in-Two-clause-none c =
+    let parts = ap texts c.in_ok-command.ensures.cases.0 ∙ ap (λ (w : List ℕ). w ∷ texts c.in_ok-command.behind.now) (sym c.as_str-in-Two.ensures.value) in
+    if_none c.of_two.result ((r : Request) → ¬ IsCommand c.as_str-in-Two.result.now (c.in-Two.file.now ∷ c.in-Two.evidence.now ∷ []) r) (IsNoCommand (texts c.args.words.now))
+    (λ none request asks.
+    none request (asked_behind (texts c.args.words.now) c.as_str-in-Two.result.now (texts c.in_ok-command.behind.now) (c.in-Two.file.now ∷ c.in-Two.evidence.now ∷ []) request parts
+    (subst (λ (f : OneOrTwo). NamesFiles (texts c.in_ok-command.behind.now) (named_by f)) c.in-Two.is c.in_ok-file.ensures.some) asks))
+    c.of_two.ensures.none

@@ -1,0 +1,13 @@
+use Rattle.ras_cli.specs.Outcomes.{IsReplay}
+use Rattle.ras_cli.proofs.Joining.{of_pair, handed_pair}
+use Rattle.ras_cli.proofs.commands.replay.Goals as goal
+
+pub returns-in_err-spec-clause-comes : goal.returns-in_err-spec-clause-comes
+returns-in_err-spec-clause-comes g c =
+    handed_pair (g.H.Shelf.told c.args.shelf.now) (g.H.Shelf.faults c.args.shelf.now) (g.H.Shelf.faults c.load_pair.new.shelf) IsReplay c.args.file.now c.args.evidence.now
+    c.from_residual.result c.in_err-spec.field-0.0 c.from_residual.ensures.1 c.in_err-spec.ensures.no_pair
+
+pub returns-clause-comes : goal.returns-clause-comes
+returns-clause-comes g c =
+    of_pair (g.H.Shelf.told c.args.shelf.now) (g.H.Shelf.faults c.args.shelf.now) (g.H.Shelf.faults c.load_pair.new.shelf) IsReplay c.args.file.now c.args.evidence.now
+    c.in_ok-replayed.field-0 c.in_ok-spec.spec c.in_ok-spec.evidence c.in_ok-spec.ensures.pair c.in_ok-replayed.ensures

@@ -1,0 +1,102 @@
+ghost use Rattle.std.specs.Prelude.{IfOk};
+ghost use Rattle.ras_evidence.specs.declared.value.Evidence.TheVariants.{Unsafe};
+ghost use Rattle.ras_bundles.specs.declared.fault.BundleError.TheVariants as bundle;
+ghost use Rattle.ras_check.specs.Judging.{HasWholeTrees};
+ghost use Rattle.ras_cli.specs.Outcomes.{OfEvidenceFault, OfBundleError, IsVerdict, IsReplay, BundleComesTo};
+
+use crate::outcome::{Outcome, Reason};
+use ras_bundles::{BundleError, BundleKind, read_bundle};
+use ras_check::{
+    Invalid, Verdict, a_good_evidence_of_a_violation_suffices, a_good_evidence_of_safety_suffices,
+    check, valid_line,
+};
+use ras_evidence::{Evidence, EvidenceFault};
+use ras_logic::RawDb;
+use ras_steps::Run;
+use ras_system::System;
+use ras_violation::{ViolationError, replay_text};
+use std::alloc::{AllocError, Global};
+
+/// The refusal of bytes that are no text of an evidence.
+pub fn of_fault<'a>(fault: EvidenceFault) -> Outcome<'a>
+    ensures { OfEvidenceFault fault result }
+{
+    Outcome::NoEvidence {
+        line: fault.line,
+        reason: Reason::Fault(fault.kind),
+    }
+}
+
+/// The refusal of a bundle whose system part denotes no system.
+fn of_system_fault<'a>(line: u64, kind: BundleKind) -> Outcome<'a>
+    ensures { OfBundleError (bundle.System line kind) result }
+{
+    Outcome::NoBundle { line, kind }
+}
+
+/// The verdict on an evidence, whose first line has this number.
+pub fn judged<'a>(
+    alloc: Global,
+    system: &System,
+    evidence: &Evidence,
+    line: u64,
+) -> Result<Outcome<'a>, AllocError>
+    requires { HasWholeTrees evidence.now }
+    ensures { IfOk result (IsVerdict system.now evidence.now line) }
+{
+    a_good_evidence_of_safety_suffices();
+    a_good_evidence_of_a_violation_suffices();
+    system.known();
+    match check(alloc, system, evidence)? {
+        Verdict::Valid => Ok(Outcome::Done(Vec::from_slice(alloc, valid_line(evidence))?)),
+        Verdict::Invalid(invalid) => Ok(Outcome::Invalid(invalid)),
+        Verdict::Unbuilt => Ok(Outcome::NoEvidence {
+            line,
+            reason: Reason::Unbuilt,
+        }),
+    }
+}
+
+/// What the bytes of a bundle come to.
+pub fn judged_bundle<'a>(alloc: Global, bytes: &[u8]) -> Result<Outcome<'a>, AllocError>
+    ensures { IfOk result (BundleComesTo bytes.now) }
+{
+    match read_bundle(alloc, bytes) {
+        Ok(bundle) => judged(alloc, &bundle.system, &bundle.evidence, bundle.line),
+        Err(BundleError::System { line, kind }) => Ok(of_system_fault(line, kind)),
+        Err(BundleError::Evidence(fault)) => Ok(of_fault(fault)),
+        Err(BundleError::Memory(error)) => Err(error),
+    }
+}
+
+fn replayed_run<'a>(
+    alloc: Global,
+    system: &System,
+    db: &RawDb,
+    run: &Run,
+) -> Result<Outcome<'a>, AllocError>
+    ensures { IfOk result (IsReplay system.now (Unsafe db.now run.now)) }
+{
+    match replay_text(alloc, system, db, run) {
+        Ok(text) => Ok(Outcome::Done(text)),
+        Err(ViolationError::Fault(fault)) => Ok(Outcome::Invalid(Invalid::Violation(fault))),
+        Err(ViolationError::Memory(error)) => Err(error),
+    }
+}
+
+/// What comes of the run of an evidence.
+pub fn replayed<'a>(
+    alloc: Global,
+    system: &System,
+    evidence: &Evidence,
+) -> Result<Outcome<'a>, AllocError>
+    ensures { IfOk result (IsReplay system.now evidence.now) }
+{
+    match evidence {
+        Evidence::Unsafe { db, run } => replayed_run(alloc, system, db, run),
+        Evidence::Safe { .. } | Evidence::Unknown { .. } => Ok(Outcome::NoEvidence {
+            line: 1,
+            reason: Reason::NoRun,
+        }),
+    }
+}
