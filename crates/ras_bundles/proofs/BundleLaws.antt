@@ -33,7 +33,7 @@ use Rattle.ras_bundles.specs.Numbers.{numbers_of, system_named}
 use Rattle.ras_bundles.specs.Bundles.{IsPlainSystem, BeginsWithSystem, IsBundle}
 use Rattle.ras_bundles.specs.Checks.{first_fault}
 use Rattle.ras_bundles.specs.BundleFaults.{IsNumbersFront, BeginsWithNumbers, IsTextLine, IsNumbersFault, IsFaultOf, IsBundleFault, IsFault}
-use Rattle.ras_bundles.specs.Judging.{IsFirstFault, behind_error}
+use Rattle.ras_bundles.specs.Judging.{AnswersFirstFault, behind_error}
 use Rattle.ras_bundles.proofs.SystemLaws.{system_exact}
 use Rattle.ras_bundles.proofs.NamedLaws.{one_system}
 use Rattle.ras_bundles.proofs.CompleteLaws.{complete}
@@ -235,12 +235,12 @@ bundle_answered bytes behind l s e n read same plain line text whole =
     let number : n ≡ length (system_lines (numbers_of s)) + 1 = omega (arith, ap length front.0, length-append (system_lines (numbers_of s)) behind, line) in
     bundle_from bytes k.rest behind s e n k.are plain front text (whole (lines_of bytes) k.rest k.are) number
 
-first_of_bytes : (bytes : List ℕ) (behind : List (List ℕ)) (l : SystemLines) (e : BundleError) → IsNumbersFront (lines_of bytes) l behind → IsFirstFault l e → IsBundleFault bytes e
+first_of_bytes : (bytes : List ℕ) (behind : List (List ℕ)) (l : SystemLines) (e : BundleError) → IsNumbersFront (lines_of bytes) l behind → AnswersFirstFault l e → IsBundleFault bytes e
 first_of_bytes bytes behind l (System n k) front h = on_own_lines bytes (System n k) (λ rest are. inr (l, behind, front, h))
 first_of_bytes bytes behind l (Behind f) front h = absurd h
 first_of_bytes bytes behind l (Memory e) front h = λ lines rest are. tt
 
-pub handed_on : {X : Type 0} (bytes : List ℕ) (behind : List (List ℕ)) (l : SystemLines) (e : BundleError) (r : Result X BundleError) → IsNumbersFront (lines_of bytes) l behind → IsFirstFault l e
+pub handed_on : {X : Type 0} (bytes : List ℕ) (behind : List (List ℕ)) (l : SystemLines) (e : BundleError) (r : Result X BundleError) → IsNumbersFront (lines_of bytes) l behind → AnswersFirstFault l e
     → IsErrAnd r (λ k. k ≡ e) → IfErr r (IsBundleFault bytes)
 handed_on bytes behind l e (Ok x) front h is = absurd is
 handed_on bytes behind l e (Err k) front h is = subst (IsBundleFault bytes) (sym is) (first_of_bytes bytes behind l e front h)

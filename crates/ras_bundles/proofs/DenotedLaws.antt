@@ -29,7 +29,7 @@ use Rattle.ras_bundles.specs.SystemTexts.{IsWrittenSystem}
 use Rattle.ras_bundles.specs.Numbers.{function_named, sort_named, constant_named, variable_sort, variable_initial, update_named, transition_named, schema_named, shape_named, system_named}
 use Rattle.ras_bundles.specs.Bundles.{IsPlainSystem}
 use Rattle.ras_bundles.specs.Checks.{first_from, shape_checks, step_checks}
-use Rattle.ras_bundles.specs.Judging.{Judges, IsFirstFault, IsShort, HasShortSorts, HasShortSort, IsShortInitial, HasShortInitial, HasShortTarget, HasShortTargets}
+use Rattle.ras_bundles.specs.Judging.{Judges, AnswersFirstFault, IsShort, HasShortSorts, HasShortSort, IsShortInitial, HasShortInitial, HasShortTarget, HasShortTargets}
 use Rattle.ras_bundles.proofs.Places.{map-at, all-from}
 use Rattle.ras_bundles.proofs.NamedLaws.{schema_never, shape_never}
 use Rattle.ras_bundles.proofs.CompleteLaws.{GoodShape, good_shape, judged_pass, IsDenoted, denoted_by}
@@ -126,13 +126,13 @@ module _ (l : SystemLines) (n : ℕ) (h : Judges (shape_checks l) 1 (Ok n)) wher
   judged_system written shape m same g =
       denoted_by l written (judged_pass (step_checks (shape_named l) l) n m (subst (λ (s : ShapeParts). Judges (step_checks s l) n (Ok m)) same g)) (judged_shape l n h)
 
-  steps_fault : (shape : ShapeParts) (e : BundleError) → shape ≡ shape_named l → Judges (step_checks shape l) n (Err e) → IsFirstFault l e
+  steps_fault : (shape : ShapeParts) (e : BundleError) → shape ≡ shape_named l → Judges (step_checks shape l) n (Err e) → AnswersFirstFault l e
   steps_fault shape (System line kind) same g =
       h (step_checks (shape_named l) l) ∙ ap (first_from n) (sym (append-nil (step_checks (shape_named l) l)))
       ∙ subst (λ (s : ShapeParts). first_from n (step_checks s l ++ []) ≡ Some (line, kind)) same (g [])
   steps_fault shape (Evidence f) same g = g
   steps_fault shape (Memory e) same g = tt
 
-  pub steps_stop : {X : Type 0} (shape : ShapeParts) (e : BundleError) (r : Result X BundleError) → shape ≡ shape_named l → Judges (step_checks shape l) n (Err e) → IsErrAnd r (λ k. k ≡ e) → IfErr r (IsFirstFault l)
+  pub steps_stop : {X : Type 0} (shape : ShapeParts) (e : BundleError) (r : Result X BundleError) → shape ≡ shape_named l → Judges (step_checks shape l) n (Err e) → IsErrAnd r (λ k. k ≡ e) → IfErr r (AnswersFirstFault l)
   steps_stop shape e (Ok x) same g is = absurd is
-  steps_stop shape e (Err k) same g is = subst (IsFirstFault l) (sym is) (steps_fault shape e same g)
+  steps_stop shape e (Err k) same g is = subst (AnswersFirstFault l) (sym is) (steps_fault shape e same g)

@@ -10,16 +10,16 @@ use Rattle.ras_logic.specs.Shapes.{ShapeParts}
 use Rattle.ras_bundles.specs.declared.fault.BundleKind.{BundleKind}
 use Rattle.ras_bundles.specs.declared.fault.BundleError.{BundleError}
 use Rattle.ras_bundles.specs.declared.fault.BundleError.TheVariants.{System, Evidence, Memory}
-use Rattle.ras_bundles.specs.Checks.{Check, first_of, count_checks, cube_checks, told, first_from, each}
+use Rattle.ras_bundles.specs.Checks.{Check, first_of, count_checks, cube_checks, first_or_later, first_from, each}
 use Rattle.ras_bundles.specs.Judging.{Judges}
 
 -- One line.
 
 pub passes-line : (n : ℕ) (c : List Check) (ls : List (List Check)) → first_of c ≡ None → first_from n (c ∷ ls) ≡ first_from (suc n) ls
-passes-line n c ls h = ap (λ (o : Option BundleKind). told n o (first_from (suc n) ls)) h
+passes-line n c ls h = ap (λ (o : Option BundleKind). first_or_later n o (first_from (suc n) ls)) h
 
 pub fails-line : (n : ℕ) (c : List Check) (ls : List (List Check)) (k : BundleKind) → first_of c ≡ Some k → first_from n (c ∷ ls) ≡ Some (n, k)
-fails-line n c ls k h = ap (λ (o : Option BundleKind). told n o (first_from (suc n) ls)) h
+fails-line n c ls k h = ap (λ (o : Option BundleKind). first_or_later n o (first_from (suc n) ls)) h
 
 pub judged_ok : (n : ℕ) (c : List Check) (m : ℕ) → m ≡ n + 1 → first_of c ≡ None → Judges (c ∷ []) n (Ok m)
 judged_ok n c m is h = λ more. passes-line n c more h ∙ ap (λ (k : ℕ). first_from k more) (let e : suc n ≡ m = omega (arith, is) in e)
@@ -136,7 +136,7 @@ cube_same shape c rows literals o a b h =
 abbrev pub AllPass : List (List Check) → Type 0
 AllPass ls = AllByRecursion (λ (c : List Check). first_of c ≡ None) ls
 
-passes_first : (n : ℕ) (o : Option BundleKind) (later : Option (ℕ × BundleKind)) → told n o later ≡ None → (o ≡ None) × (later ≡ None)
+passes_first : (n : ℕ) (o : Option BundleKind) (later : Option (ℕ × BundleKind)) → first_or_later n o later ≡ None → (o ≡ None) × (later ≡ None)
 passes_first n (Some k) later h = absurd cc
 passes_first n None later h = (refl, h)
 

@@ -122,15 +122,15 @@ step_checks shape s =
 abbrev pub line_checks : SystemLines → List (List Check)
 line_checks s = shape_checks s ++ step_checks (shape_named s) s
 
--- what is told of lines: what is wrong in the first, which has the number n, or what is in the later ones
-abbrev pub told : ℕ → Option BundleKind → Option (ℕ × BundleKind) → Option (ℕ × BundleKind)
-told n (Some kind) later = Some (n, kind)
-told n None later = later
+-- what is wrong in the first of some lines, which has the number n, or else what is wrong in the later ones
+abbrev pub first_or_later : ℕ → Option BundleKind → Option (ℕ × BundleKind) → Option (ℕ × BundleKind)
+first_or_later n (Some kind) later = Some (n, kind)
+first_or_later n None later = later
 
 -- the number of the first line with a check that fails, and its first such check; the first of these lines has the number n
 abbrev pub first_from : ℕ → List (List Check) → Option (ℕ × BundleKind)
 first_from n [] = None
-first_from n (checks ∷ lines) = told n (first_of checks) (first_from (suc n) lines)
+first_from n (checks ∷ lines) = first_or_later n (first_of checks) (first_from (suc n) lines)
 
 -- the first fault of the system part
 abbrev pub first_fault : SystemLines → Option (ℕ × BundleKind)

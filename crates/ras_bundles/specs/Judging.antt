@@ -48,10 +48,10 @@ abbrev pub HasShortTargets : TransitionLines → Type 0
 HasShortTargets t = All HasShortTarget t.updates
 
 -- the first fault of the system part, or want of memory
-abbrev pub IsFirstFault : SystemLines → BundleError → Type 0
-IsFirstFault s (System line kind) = first_fault s ≡ Some (line, kind)
-IsFirstFault s (Evidence f) = ⊥
-IsFirstFault s (Memory e) = Unit {0}
+abbrev pub AnswersFirstFault : SystemLines → BundleError → Type 0
+AnswersFirstFault s (System line kind) = first_fault s ≡ Some (line, kind)
+AnswersFirstFault s (Evidence f) = ⊥
+AnswersFirstFault s (Memory e) = Unit {0}
 
 -- the error of a reader of evidence, as one of a bundle
 abbrev pub behind_error : ReadError → BundleError

@@ -45,7 +45,7 @@ ring_text =
 abbrev pub front : List (List ℕ)
 front = codes "bundle 1" ∷ codes "sorts 1" ∷ codes "functions 0" ∷ codes "consts 0" ∷ codes "variables 1" ∷ codes "variable 0 none" ∷ codes "transitions 1" ∷ []
 
--- the variable is assigned twice, and the second term is of no sort that is
+-- the variable is assigned three times, where the second is the first fault; the third term is of a sort that is none
 abbrev pub twice_text : List ℕ
 twice_text = written (front ++ codes "guard 1" ∷ codes "cube 0 0" ∷ codes "updates 3" ∷ codes "update 0 u0" ∷ codes "update 0 v0" ∷ codes "update 0 u7" ∷ codes "unsafe 0" ∷ [])
 

@@ -6,7 +6,7 @@ ghost use Rattle.ras_system.specs.SystemFaults.{first_fault as system_fault};
 ghost use Rattle.ras_bundles.specs.Bundles.{IsPlainSystem};
 ghost use Rattle.ras_bundles.specs.SystemTexts.{IsWrittenSystem};
 ghost use Rattle.ras_bundles.specs.Numbers.{function_named, sort_named, constant_named, variable_sort, variable_initial, literals_of, update_named, transition_named, schema_named, shape_named, system_named, numbers_of};
-ghost use Rattle.ras_bundles.specs.Judging.{HasShortSorts, IsShort, HasShortSort, HasShortInitial, IsShortInitial, HasShortTarget, HasShortTargets, IsFirstFault};
+ghost use Rattle.ras_bundles.specs.Judging.{HasShortSorts, IsShort, HasShortSort, HasShortInitial, IsShortInitial, HasShortTarget, HasShortTargets, AnswersFirstFault};
 
 use crate::fault::BundleError;
 use crate::shape_lines::judge_shape;
@@ -174,7 +174,7 @@ pub fn denoted(alloc: Global, lines: SystemLines) -> Result<System, BundleError>
     requires { IsWrittenSystem lines }
     ensures numbers { IfOk result (λ system. numbers_of system ≡ lines) }
     ensures plain { IfOk result IsPlainSystem }
-    ensures fault { IfErr result (IsFirstFault lines) }
+    ensures fault { IfErr result (AnswersFirstFault lines) }
 {
     let next = judge_shape(&lines)?;
     let shape = shape_of(alloc, &lines)?;

@@ -17,21 +17,21 @@ use Rattle.ras_check.specs.declared.verdict.Invalid.TheVariants as invalid
 use Rattle.ras_check.specs.declared.verdict.Verdict.{Verdict}
 use Rattle.ras_check.specs.declared.verdict.Verdict.TheVariants as verdict
 use Rattle.ras_check.specs.Faults.{IsSafeFault}
-use Rattle.ras_check.specs.Judging.{IsGood, IsInvalid, IsUnbuilt, AnswersCheck}
+use Rattle.ras_check.specs.Judging.{IsFoundGood, IsInvalid, IsUnbuilt, AnswersCheck}
 
 module _ (not_safe : (system : SystemParts) (formulas : List Problem) (trees : List Tree) (f : SafeFault) → IsSafeFault system formulas trees f → ¬ IsGoodSafe system formulas trees)
     (one_safe : (system : SystemParts) (formulas : List Problem) (trees : List Tree) (f g : SafeFault) → IsSafeFault system formulas trees f → IsSafeFault system formulas trees g → f ≡ g)
     (no_violation : (system : SystemParts) (d : RawDb) (run : Run) (f : ViolationFault) → IsViolationFault system d run f → ¬ IsGoodViolation system d run)
     (one_violation : (system : SystemParts) (d : RawDb) (run : Run) (f g : ViolationFault) → IsViolationFault system d run f → IsViolationFault system d run g → f ≡ g)
     (system : SystemParts) where
-  good_or_invalid : (e : Evidence) (i : Invalid) → IsGood system e → IsInvalid system e i → ⊥
+  good_or_invalid : (e : Evidence) (i : Invalid) → IsFoundGood system e → IsInvalid system e i → ⊥
   good_or_invalid (Safe formulas trees) (invalid.Safe f) good bad = not_safe system formulas trees f bad.1 good.1
   good_or_invalid (Safe formulas trees) (invalid.Violation f) good bad = bad
   good_or_invalid (Unsafe d run) (invalid.Safe f) good bad = bad
   good_or_invalid (Unsafe d run) (invalid.Violation f) good bad = no_violation system d run f bad good
   good_or_invalid (Unknown entries spill) i good bad = good
 
-  good_or_unbuilt : (e : Evidence) → IsGood system e → IsUnbuilt system e → ⊥
+  good_or_unbuilt : (e : Evidence) → IsFoundGood system e → IsUnbuilt system e → ⊥
   good_or_unbuilt (Safe formulas trees) good none = none good.0
   good_or_unbuilt (Unsafe d run) good none = none
   good_or_unbuilt (Unknown entries spill) good none = good

@@ -27,11 +27,11 @@ HasCubes (Safe formulas trees) = All IsCube formulas
 HasCubes (Unsafe db run) = ⊤
 HasCubes (Unknown entries spill) = ⊤
 
--- A good evidence of safety of a system without relations and data parameters, or a violation.
-abbrev pub IsGood : SystemParts → Evidence → Type 0
-IsGood system (Safe formulas trees) = IsPlain system × IsGoodSafe system formulas trees
-IsGood system (Unsafe db run) = IsGoodViolation system db run
-IsGood system (Unknown entries spill) = ⊥
+-- good, and of a kind that is judged: an evidence of safety of a system without relations and data parameters, or a violation
+abbrev pub IsFoundGood : SystemParts → Evidence → Type 0
+IsFoundGood system (Safe formulas trees) = IsPlain system × IsGoodSafe system formulas trees
+IsFoundGood system (Unsafe db run) = IsGoodViolation system db run
+IsFoundGood system (Unknown entries spill) = ⊥
 
 -- what is wrong with an evidence first
 abbrev pub IsInvalid : SystemParts → Evidence → Invalid → Type 0
@@ -39,7 +39,7 @@ IsInvalid system (Safe formulas trees) (invalid.Safe fault) = IsPlain system × 
 IsInvalid system (Unsafe db run) (invalid.Violation fault) = IsViolationFault system db run fault
 IsInvalid system _ _ = ⊥
 
--- An evidence of safety of another system, or an evidence of a spent budget.
+-- not judged yet: an evidence of safety of a system with relations or data parameters, or one of a spent budget
 abbrev pub IsUnbuilt : SystemParts → Evidence → Type 0
 IsUnbuilt system (Safe formulas trees) = ¬ IsPlain system
 IsUnbuilt system (Unsafe db run) = ⊥
@@ -47,6 +47,6 @@ IsUnbuilt system (Unknown entries spill) = ⊤
 
 -- the verdict on an evidence
 abbrev pub AnswersCheck : SystemParts → Evidence → Verdict → Type 0
-AnswersCheck system evidence verdict.Valid = IsGood system evidence
+AnswersCheck system evidence verdict.Valid = IsFoundGood system evidence
 AnswersCheck system evidence (verdict.Invalid fault) = IsInvalid system evidence fault
 AnswersCheck system evidence verdict.Unbuilt = IsUnbuilt system evidence

@@ -23,15 +23,15 @@ tree_kind kind.Rows = codes "ROWS"
 tree_kind kind.Children = codes "CHILDREN"
 tree_kind kind.NoClash = codes "NO_CLASH"
 
--- the number of the formula
+-- `INVALID formula I NOT_FITTING`
 abbrev pub formula_text : ℕ → List ℕ
 formula_text number = codes "INVALID formula" ++ (word number ++ codes " NOT_FITTING\n")
 
--- the node of the tree
+-- ` node K KIND`
 abbrev pub node_text : TreeFault → List ℕ
 node_text f = codes " node" ++ (word f.node ++ (codes " " ++ (tree_kind f.kind ++ codes "\n")))
 
--- the number of the obligation, and the node of its tree
+-- `INVALID obligation I node K KIND`
 abbrev pub obligation_text : ℕ → TreeFault → List ℕ
 obligation_text number f = codes "INVALID obligation" ++ (word number ++ node_text f)
 

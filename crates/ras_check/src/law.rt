@@ -12,7 +12,7 @@ ghost use Rattle.ras_evidence.specs.EvidenceTexts.{IsEvidenceText};
 ghost use Rattle.ras_check.specs.declared.safe_fault.SafeFault.{SafeFault};
 ghost use Rattle.ras_check.specs.declared.verdict.Verdict.{Verdict};
 ghost use Rattle.ras_check.specs.Faults.{IsSafeFault};
-ghost use Rattle.ras_check.specs.Judging.{HasWholeTrees, HasCubes, IsGood, AnswersCheck};
+ghost use Rattle.ras_check.specs.Judging.{HasWholeTrees, HasCubes, IsFoundGood, AnswersCheck};
 
 use ras_refute::a_fault_is_no_closing;
 
@@ -61,14 +61,14 @@ pub fn each_evidence_has_a_verdict()
 /// A system with an evidence of safety that is judged good is safe.
 pub fn a_good_evidence_of_safety_suffices()
     ensures { (system : SystemParts) (formulas : List Problem) (trees : List Tree) → IsSystem system
-        → IsGood system (Safe formulas trees) → IsSafe system }
+        → IsFoundGood system (Safe formulas trees) → IsSafe system }
 {
     ras_system::a_good_evidence_suffices();
 }
 
 /// A system with an evidence of a violation that is judged good is not safe.
 pub fn a_good_evidence_of_a_violation_suffices()
-    ensures { (system : SystemParts) (db : RawDb) (run : Run) → IsGood system (Unsafe db run) → ¬ IsSafe system }
+    ensures { (system : SystemParts) (db : RawDb) (run : Run) → IsFoundGood system (Unsafe db run) → ¬ IsSafe system }
 {
     ras_violation::a_violation_is_not_safe();
 }

@@ -1,6 +1,6 @@
 //! The judge of evidence. A system and an evidence come in; what comes out is that the evidence is good, or the first thing
-//! that is wrong with it, and the line that tells of either: the layer above uses the contracts of `check` and `check_safe`,
-//! `valid_line` and `invalid_line`.
+//! that is wrong with it, and the line that tells of either: the layer above uses the contracts of `check`, `valid_line` and
+//! `invalid_line`.
 #![tactic(auto)]
 
 mod counting;

@@ -26,7 +26,7 @@ status_of (NotRead name) = 50
 abbrev pub line : List ℕ → List ℕ
 line text = text ++ 10 ∷ []
 
--- a line that ends with the number of another one, and a word
+-- `.. N WORD`: a text, the number of a line, a word
 abbrev pub numbered : List ℕ → ℕ → List ℕ → List ℕ
 numbered text number word = text ++ (decimal number ++ (codes " " ++ line word))
 

@@ -17,7 +17,7 @@ use Rattle.ras_cli.specs.declared.outcome.Outcome.TheVariants.{TooLong, NotRead,
 use Rattle.ras_cli.specs.Words.{Request, check_bundle, print, check, replay, files_of, Asks, IsNoCommand}
 use Rattle.ras_cli.specs.Outcomes.{IsPrint, IsVerdict, IsReplay, OfFileFault, OfEvidenceFault, BundleComesTo, FileComesTo, EvidenceComesTo}
 
--- the length of the longest specification that is loaded, and of the longest evidence or bundle, which is that of any `Vec<u8>`
+-- the length of the longest specification that is loaded, and of the longest evidence or bundle, which is that of the longest `Vec<u8>`
 abbrev pub longest_file : ℕ
 longest_file = 1048576
 

@@ -23,7 +23,7 @@ use Rattle.ras_bundles.specs.declared.fault.BundleError.TheVariants as bundle
 use Rattle.ras_bundles.specs.Bundles.{IsBundle}
 use Rattle.ras_bundles.specs.BundleFaults.{IsBundleFault}
 use Rattle.ras_check.specs.declared.verdict.Invalid.TheVariants.{Violation}
-use Rattle.ras_check.specs.Judging.{IsGood, IsInvalid, IsUnbuilt}
+use Rattle.ras_check.specs.Judging.{IsFoundGood, IsInvalid, IsUnbuilt}
 use Rattle.ras_check.specs.VerdictLines.{valid_text}
 use Rattle.ras_cli.specs.declared.outcome.Outcome.{Outcome}
 use Rattle.ras_cli.specs.declared.outcome.Outcome.TheVariants.{Done, NoSystem, NoBundle, NoEvidence, Invalid}
@@ -37,12 +37,12 @@ Proves (Unknown entries spill) system = Unit {0}
 
 -- the verdict on an evidence, whose first line has this number
 abbrev pub IsVerdict : SystemParts → Evidence → ℕ → Outcome → Type 0
-IsVerdict system evidence line (Done text) = (IsGood system evidence × Proves evidence system) × (text.items ≡ valid_text evidence)
+IsVerdict system evidence line (Done text) = (IsFoundGood system evidence × Proves evidence system) × (text.items ≡ valid_text evidence)
 IsVerdict system evidence line (Invalid f) = IsInvalid system evidence f
 IsVerdict system evidence line (NoEvidence number Unbuilt) = IsUnbuilt system evidence × (number ≡ line)
 IsVerdict system evidence line other = ⊥
 
--- what comes of the run of an evidence: only one of a violation has a run
+-- what comes of an evidence that is to be replayed: only one of a violation is
 abbrev pub IsReplay : SystemParts → Evidence → Outcome → Type 0
 IsReplay system (Unsafe db run) (Done text) = IsGoodViolation system db run × IsReplayText system db run text.items
 IsReplay system (Unsafe db run) (Invalid (Violation f)) = IsViolationFault system db run f

@@ -14,7 +14,7 @@ pub enum Reason {
     Fault(EvidenceKind),
     /// There is no judge yet of such an evidence for such a system.
     Unbuilt,
-    /// It has no run that could be written out.
+    /// It is not one of a violation, so there is no run to write out.
     NoRun,
 }
 

@@ -45,7 +45,7 @@ fn outcome<'a, H: Shelf>(
 ///
 /// | Status | Text | Comes |
 /// |---|---|---|
-/// | 0 | `VALID SAFE`, `VALID UNSAFE` | of `check` where the evidence is good |
+/// | 0 | `VALID SAFE`, `VALID UNSAFE` | of `check` where the evidence is of a kind that is judged, and good |
 /// | 0 | the states of the run and the goal met | of `replay` where the evidence is a violation |
 /// | 0 | the canonical text | of `print` where the file denotes a system |
 /// | 30 | `REFUSED file AT P KIND` | where the specification denotes no system: its first fault |
@@ -54,7 +54,7 @@ fn outcome<'a, H: Shelf>(
 /// | 31 | `REFUSED evidence LINE N UNBUILT` | of `check` where such an evidence is not judged yet |
 /// | 31 | `REFUSED evidence LINE 1 NO_RUN` | of `replay` where the evidence is none of a violation |
 /// | 31 | an `INVALID` line | where the evidence is not good: its first fault |
-/// | 32 | `REFUSED long NAME` | where an evidence is longer than the longest `Vec<u8>`, or a specification than 1,048,576 bytes |
+/// | 32 | `REFUSED long NAME` | where an evidence or a bundle is longer than the longest `Vec<u8>`, or a specification than 1,048,576 bytes |
 /// | 40 | `REFUSED words` and the usage lines | where the words are of the form of no command |
 /// | 50 | `REFUSED read NAME` | where the shelf failed |
 /// | 51 | a front of a text | where the sink failed |
@@ -66,7 +66,8 @@ pub fn verify_quiet<R: Threads + Sync, H: Shelf, K: Sink>(
     shelf: &mut H,
     out: &mut K,
 ) -> u8
-    // What status 0 means, where the shelf tells of the files: a good evidence, and then the system is safe or is not as it says.
+    // What status 0 means, where the shelf tells of the files: a good evidence, and the system is safe, or is not, whichever
+    // the evidence says.
     ensures done { result ≡ 0 → (request : Request) → Asks (texts words.now) request → IsDone (H.told shelf.old) request }
 
     // Each status comes of an outcome, whose text is written. The sink may fail, or memory be wanting.

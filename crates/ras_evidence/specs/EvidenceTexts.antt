@@ -32,7 +32,7 @@ parts_lines (Unknown entries spill) = (count_line (codes "budget") (length entri
 abbrev pub evidence_lines : Evidence → List (List ℕ)
 evidence_lines e = line (codes "evidence") (codes "1" ∷ verdict_word (verdict_of e) ∷ []) ∷ (parts_lines e ++ codes "end" ∷ [])
 
--- What can be written: an unknown system has at least one entry before the spill.
+-- What can be written: an evidence of a spent budget has at least one entry before the spill.
 
 pub record IsWrittenEntry (e : Entry) : Type 0 where
   pub cube : IsSmallCube e.cube
