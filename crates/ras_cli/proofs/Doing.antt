@@ -22,7 +22,7 @@ use Rattle.ras_cli.specs.Words.{Request, check_bundle, print, check, replay, fil
 use Rattle.std.specs.Io.KnownBytes.{append_known}
 use Rattle.ras_cli.specs.Answers.{status_of, text_of}
 use Rattle.ras_cli.specs.Outcomes.{IsVerdict, IsReplay, IsPrint, OfFileFault, OfEvidenceFault, OfBundleError, EitherOf, BundleComesTo, FileComesTo, EvidenceComesTo}
-use Rattle.ras_cli.specs.Loads.{longest_file, longest_evidence, RequestComesTo, IsLoaded, Loads, Comes, CountsStand, StandUnless, StandOrRose, IsCutOff}
+use Rattle.ras_cli.specs.Loads.{longest_file, longest_evidence, RequestComesTo, IsLoaded, Loads, Comes, CountsStand, IsUnread, StandOrRose, IsCutOff}
 use Rattle.ras_cli.specs.Done.{IsViolationText, IsDone}
 use Rattle.ras_cli.proofs.Naming.{one_asked}
 use Rattle.ras_cli.proofs.Agreeing.{IsOneAnswer, loaded_is}
@@ -168,25 +168,25 @@ module _ (words : List (List ℕ)) (told : List ℕ → Told) (before after : Li
       let s = file_of n (λ spec. Loads told before after evidence longest_evidence (EvidenceComesTo (IsReplay spec.system))) b.0 b.2 in
       behind_rose n name evidence (IsReplay s.0.system) (no_replay n s.0.system) s.1
 
-  pub stand_or_rose : (o : Outcome) → Comes words told before after o → StandUnless before after o → StandOrRose words before after
+  pub stand_or_rose : (o : Outcome) → Comes words told before after o → (¬ IsUnread o → CountsStand before after) → StandOrRose words before after
   stand_or_rose (NotRead n) c s = let r = rose_of n c.0 c.2 in inr (c.0, r.0, c.1, r.1, r.2)
-  stand_or_rose (Done text) c s = inl s
-  stand_or_rose (NoSystem f) c s = inl s
-  stand_or_rose (NoBundle number kind) c s = inl s
-  stand_or_rose (NoEvidence number reason) c s = inl s
-  stand_or_rose (Invalid f) c s = inl s
-  stand_or_rose (TooLong name) c s = inl s
-  stand_or_rose NoCommand c s = inl s
+  stand_or_rose (Done text) c s = inl (s (λ x. x))
+  stand_or_rose (NoSystem f) c s = inl (s (λ x. x))
+  stand_or_rose (NoBundle number kind) c s = inl (s (λ x. x))
+  stand_or_rose (NoEvidence number reason) c s = inl (s (λ x. x))
+  stand_or_rose (Invalid f) c s = inl (s (λ x. x))
+  stand_or_rose (TooLong name) c s = inl (s (λ x. x))
+  stand_or_rose NoCommand c s = inl (s (λ x. x))
 
-pub stand_unless_50 : (before after : List ℕ → ℕ) (o : Outcome) → StandUnless before after o → status_of o ≢ 50 → CountsStand before after
+pub stand_unless_50 : (before after : List ℕ → ℕ) (o : Outcome) → (¬ IsUnread o → CountsStand before after) → status_of o ≢ 50 → CountsStand before after
 stand_unless_50 before after (NotRead n) s other = absurd (other refl)
-stand_unless_50 before after (Done text) s other = s
-stand_unless_50 before after (NoSystem f) s other = s
-stand_unless_50 before after (NoBundle number kind) s other = s
-stand_unless_50 before after (NoEvidence number reason) s other = s
-stand_unless_50 before after (Invalid f) s other = s
-stand_unless_50 before after (TooLong name) s other = s
-stand_unless_50 before after NoCommand s other = s
+stand_unless_50 before after (Done text) s other = s (λ x. x)
+stand_unless_50 before after (NoSystem f) s other = s (λ x. x)
+stand_unless_50 before after (NoBundle number kind) s other = s (λ x. x)
+stand_unless_50 before after (NoEvidence number reason) s other = s (λ x. x)
+stand_unless_50 before after (Invalid f) s other = s (λ x. x)
+stand_unless_50 before after (TooLong name) s other = s (λ x. x)
+stand_unless_50 before after NoCommand s other = s (λ x. x)
 
 -- what the told files come to is answered
 pub every_told : (o p : Outcome) (status : ℕ) (was now : Option (List ℕ)) → ((status_of o ≡ 50) ⊎ IsOneAnswer o p) → status ≡ status_of o → now ≡ append_known was (text_of o)

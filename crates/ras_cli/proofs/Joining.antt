@@ -1,5 +1,5 @@
 -- What is loaded one after the other comes to one outcome.
-use Rattle.std.proofs.Common.{◌≡◌, ℕ, inl, inr, List, sym, subst}
+use Rattle.std.proofs.Common.{◌≡◌, ℕ, inl, inr, List, sym, subst, ◌∙◌, arith}
 use Rattle.std.specs.Prelude.{Result, Ok, Err, IfErr, IsErrAnd}
 use Rattle.ras_outside.specs.Count.{Rose}
 use Rattle.ras_outside.specs.Told.{Told, holds, IsTold, HoldsMoreThan}
@@ -13,7 +13,7 @@ use Rattle.ras_cli.specs.declared.loading.Halt.TheVariants.{Ended, Memory}
 use Rattle.ras_cli.specs.declared.outcome.Outcome.{Outcome}
 use Rattle.ras_cli.specs.declared.outcome.Outcome.TheVariants.{Done, NoSystem, NoBundle, NoEvidence, Invalid, TooLong, NotRead, NoCommand}
 use Rattle.ras_cli.specs.Outcomes.{OfEvidenceFault, FileComesTo, EvidenceComesTo}
-use Rattle.ras_cli.specs.Loads.{longest_file, longest_evidence, IsLoaded, IsNotLoaded, Loads, OnEnded, Ends, IsSpecOf, IsEvidenceOf, HasNoSpec, HasNoEvidence, ArePairOf, HasNoPair}
+use Rattle.ras_cli.specs.Loads.{longest_file, longest_evidence, IsLoaded, IsNotLoaded, Loads, OnEnded, Ends, IsSpecOf, IsEvidenceOf, HasNoSpec, HasNoEvidence, ArePairOf, HasNoPair, HaltsUnread, Leaves}
 
 -- a shelf that tells the same of the file, and has the same count of its faults, may stand in place of another one
 module _ (told other : List ℕ → Told) (before mid after : List ℕ → ℕ) (name : List ℕ) (most : ℕ) (held : other name ≡ told name) (stood : mid name ≡ before name) where
@@ -38,6 +38,16 @@ module _ (told other : List ℕ → Told) (before mid after : List ℕ → ℕ) 
 pub handed_on : {X : Type 0} (P : Halt → Type 0) (r : Result X Halt) (h : Halt) → IsErrAnd r (λ k. k ≡ h) → P h → IfErr r P
 handed_on P (Ok x) h is p = absurd is
 handed_on P (Err k) h is p = subst P (sym is) p
+
+-- what two loads leave, where the second one goes no further
+pub left_behind : {X Y Z : Type 0} (told mid now : List ℕ → Told) (before between after : List ℕ → ℕ) (x : X) (h : Halt) (r : Result Z Halt)
+    → Leaves {A = X} told mid before between (Ok x) → Leaves {A = Y} mid now between after (Err h) → IsErrAnd r (λ k. k ≡ h) → Leaves {A = Z} told now before after r
+left_behind told mid now before between after x h (Ok z) first second is = absurd is
+left_behind told mid now before between after x h (Err k) first second is = record {
+  held = λ name. second.held name ∙ first.held name;
+  grows = λ name. omega (arith, first.grows name, second.grows name);
+  stands = λ read name. second.stands (subst (λ (i : Halt). HaltsUnread i → ⊥) is read) name ∙ first.stands (λ u. u) name;
+}
 
 -- an outcome that is known behind a specification that was read
 pub no_pair : (told other : List ℕ → Told) (before mid after : List ℕ → ℕ) (file evidence : List ℕ) (h : Halt) (s : Spec) → IsSpecOf told file s

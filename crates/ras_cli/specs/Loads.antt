@@ -1,5 +1,5 @@
 -- What comes of words: the files that they name are loaded in order, and what stands in them decides the outcome.
-use Rattle.std.specs.Prelude.{◌≡◌, ℕ, ◌-◌, ◌^◌, ◌≤◌, ◌⊎◌, List, length, Contains, Result, Ok, Err}
+use Rattle.std.specs.Prelude.{◌≡◌, ℕ, ◌-◌, ◌^◌, ◌≤◌, ◌⊎◌, List, length, Contains, Result, Ok, Err, IsErrAnd}
 use Rattle.ras_outside.specs.Count.{Rose}
 use Rattle.ras_outside.specs.Told.{Told, holds, IsTold, HoldsMoreThan}
 use Rattle.ras_names.specs.Texts.{Denotes}
@@ -115,15 +115,22 @@ HasNoPair told before after file evidence o =
 abbrev pub CountsStand : (List ℕ → ℕ) → (List ℕ → ℕ) → Type 0
 CountsStand before after = (name : List ℕ) → after name ≡ before name
 
--- all counts stand, but where the outcome is that a file could not be read
-abbrev pub StandUnless : (List ℕ → ℕ) → (List ℕ → ℕ) → Outcome → Type 0
-StandUnless before after (NotRead name) = Unit {0}
-StandUnless before after other = CountsStand before after
+-- a file could not be read
+abbrev pub IsUnread : Outcome → Type 0
+IsUnread (NotRead name) = Unit {0}
+IsUnread other = ⊥
 
--- the same of an answer that may end a call early
-abbrev pub Stand : {A : Type 0} → (List ℕ → ℕ) → (List ℕ → ℕ) → Result A Halt → Type 0
-Stand before after (Err (Ended outcome)) = StandUnless before after outcome
-Stand before after other = CountsStand before after
+-- the call goes no further since a file could not be read
+abbrev pub HaltsUnread : Halt → Type 0
+HaltsUnread (Ended outcome) = IsUnread outcome
+HaltsUnread (Memory e) = ⊥
+
+-- What a call that loads files leaves: the shelf holds what it held, no count has fallen, and all stand unless a file could not
+-- be read.
+pub record Leaves {A : Type 0} (told now : List ℕ → Told) (before after : List ℕ → ℕ) (result : Result A Halt) : Type 0 where
+  pub held : (name : List ℕ) → now name ≡ told name
+  pub grows : (name : List ℕ) → before name ≤ after name
+  pub stands : ¬ IsErrAnd result HaltsUnread → CountsStand before after
 
 -- all counts stand, or that of a file of the words rose
 abbrev pub StandOrRose : List (List ℕ) → (List ℕ → ℕ) → (List ℕ → ℕ) → Type 0

@@ -1,8 +1,8 @@
-ghost use Rattle.std.specs.Prelude.{◌≡◌, ◌≤◌, ℕ, List, IfOk};
+ghost use Rattle.std.specs.Prelude.{ℕ, List, IfOk};
 ghost use Rattle.ras_names.specs.Texts.{Denotes};
 ghost use Rattle.ras_cli.specs.Words.{request_of, check_bundle, print as print_request, check as check_request, replay as replay_request};
 ghost use Rattle.ras_cli.specs.Outcomes.{IsPrint};
-ghost use Rattle.ras_cli.specs.Loads.{RequestComesTo, Loads, Ends, Stand};
+ghost use Rattle.ras_cli.specs.Loads.{RequestComesTo, Loads, Ends, Leaves};
 
 use crate::judging::{judged, judged_bundle, replayed};
 use crate::loading::{Halt, LONGEST_EVIDENCE, load, load_pair, load_spec};
@@ -22,9 +22,7 @@ fn check_bundle<'a, H: Shelf>(
     bundle: &'a str,
 ) -> Result<Outcome<'a>, Halt<'a>>
     ensures comes { Ends result (RequestComesTo (Loads (H.told shelf.old) (H.faults shelf.old) (H.faults shelf.new)) (check_bundle bundle.now)) }
-    ensures held { (other : List ℕ) → H.told shelf.new other ≡ H.told shelf.old other }
-    ensures grows { (other : List ℕ) → H.faults shelf.old other ≤ H.faults shelf.new other }
-    ensures stands { Stand (H.faults shelf.old) (H.faults shelf.new) result }
+    ensures left { Leaves (H.told shelf.old) (H.told shelf.new) (H.faults shelf.old) (H.faults shelf.new) result }
 {
     let bytes = load(alloc, shelf, bundle, LONGEST_EVIDENCE)?;
     Ok(judged_bundle(alloc, &bytes)?)
@@ -46,9 +44,7 @@ fn print_file<'a, H: Shelf>(
     file: &'a str,
 ) -> Result<Outcome<'a>, Halt<'a>>
     ensures comes { Ends result (RequestComesTo (Loads (H.told shelf.old) (H.faults shelf.old) (H.faults shelf.new)) (print_request file.now)) }
-    ensures held { (other : List ℕ) → H.told shelf.new other ≡ H.told shelf.old other }
-    ensures grows { (other : List ℕ) → H.faults shelf.old other ≤ H.faults shelf.new other }
-    ensures stands { Stand (H.faults shelf.old) (H.faults shelf.new) result }
+    ensures left { Leaves (H.told shelf.old) (H.told shelf.new) (H.faults shelf.old) (H.faults shelf.new) result }
 {
     let spec = load_spec(alloc, shelf, file)?;
     Ok(printed(alloc, &spec)?)
@@ -62,9 +58,7 @@ fn check_evidence<'a, H: Shelf>(
     evidence: &'a str,
 ) -> Result<Outcome<'a>, Halt<'a>>
     ensures comes { Ends result (RequestComesTo (Loads (H.told shelf.old) (H.faults shelf.old) (H.faults shelf.new)) (check_request file.now evidence.now)) }
-    ensures held { (other : List ℕ) → H.told shelf.new other ≡ H.told shelf.old other }
-    ensures grows { (other : List ℕ) → H.faults shelf.old other ≤ H.faults shelf.new other }
-    ensures stands { Stand (H.faults shelf.old) (H.faults shelf.new) result }
+    ensures left { Leaves (H.told shelf.old) (H.told shelf.new) (H.faults shelf.old) (H.faults shelf.new) result }
 {
     a_text_has_whole_trees();
     let (spec, evidence) = load_pair(alloc, shelf, file, evidence)?;
@@ -79,9 +73,7 @@ fn replay<'a, H: Shelf>(
     evidence: &'a str,
 ) -> Result<Outcome<'a>, Halt<'a>>
     ensures comes { Ends result (RequestComesTo (Loads (H.told shelf.old) (H.faults shelf.old) (H.faults shelf.new)) (replay_request file.now evidence.now)) }
-    ensures held { (other : List ℕ) → H.told shelf.new other ≡ H.told shelf.old other }
-    ensures grows { (other : List ℕ) → H.faults shelf.old other ≤ H.faults shelf.new other }
-    ensures stands { Stand (H.faults shelf.old) (H.faults shelf.new) result }
+    ensures left { Leaves (H.told shelf.old) (H.told shelf.new) (H.faults shelf.old) (H.faults shelf.new) result }
 {
     let (spec, evidence) = load_pair(alloc, shelf, file, evidence)?;
     Ok(replayed(alloc, &spec.system, &evidence)?)
@@ -94,9 +86,7 @@ pub fn carried_out<'a, H: Shelf>(
     task: Task<'a>,
 ) -> Result<Outcome<'a>, Halt<'a>>
     ensures comes { Ends result (RequestComesTo (Loads (H.told shelf.old) (H.faults shelf.old) (H.faults shelf.new)) (request_of task.entry)) }
-    ensures held { (other : List ℕ) → H.told shelf.new other ≡ H.told shelf.old other }
-    ensures grows { (other : List ℕ) → H.faults shelf.old other ≤ H.faults shelf.new other }
-    ensures stands { Stand (H.faults shelf.old) (H.faults shelf.new) result }
+    ensures left { Leaves (H.told shelf.old) (H.told shelf.new) (H.faults shelf.old) (H.faults shelf.new) result }
 {
     match task {
         Task::CheckBundle { bundle } => check_bundle(alloc, shelf, bundle),

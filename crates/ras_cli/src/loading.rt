@@ -1,6 +1,6 @@
-ghost use Rattle.std.specs.Prelude.{◌≡◌, ◌≤◌, ℕ, List, IfOk, IfErr};
+ghost use Rattle.std.specs.Prelude.{◌≡◌, IfOk, IfErr};
 ghost use Rattle.ras_cli.specs.declared.loading.Halt.TheVariants.{Memory};
-ghost use Rattle.ras_cli.specs.Loads.{IsLoaded, IsNotLoaded, OnEnded, IsSpecOf, IsEvidenceOf, HasNoSpec, HasNoEvidence, ArePairOf, HasNoPair, Stand};
+ghost use Rattle.ras_cli.specs.Loads.{IsLoaded, IsNotLoaded, OnEnded, IsSpecOf, IsEvidenceOf, HasNoSpec, HasNoEvidence, ArePairOf, HasNoPair, Leaves};
 
 use crate::judging::of_fault;
 use crate::outcome::Outcome;
@@ -40,9 +40,7 @@ pub fn load<'a, H: Shelf>(
 ) -> Result<Vec<u8>, Halt<'a>>
     ensures loaded { IfOk result (λ bytes. IsLoaded (H.told shelf.old) name.now most bytes.items) }
     ensures not_loaded { IfErr result (λ h. OnEnded h (IsNotLoaded (H.told shelf.old) (H.faults shelf.old) (H.faults shelf.new) name.now most)) }
-    ensures held { (other : List ℕ) → H.told shelf.new other ≡ H.told shelf.old other }
-    ensures grows { (other : List ℕ) → H.faults shelf.old other ≤ H.faults shelf.new other }
-    ensures stands { Stand (H.faults shelf.old) (H.faults shelf.new) result }
+    ensures left { Leaves (H.told shelf.old) (H.told shelf.new) (H.faults shelf.old) (H.faults shelf.new) result }
 {
     match shelf.load(alloc, name, most) {
         Ok(bytes) => Ok(bytes),
@@ -60,9 +58,7 @@ pub fn load_spec<'a, H: Shelf>(
 ) -> Result<Spec, Halt<'a>>
     ensures spec { IfOk result (IsSpecOf (H.told shelf.old) file.now) }
     ensures no_spec { IfErr result (λ h. OnEnded h (HasNoSpec (H.told shelf.old) (H.faults shelf.old) (H.faults shelf.new) file.now)) }
-    ensures held { (other : List ℕ) → H.told shelf.new other ≡ H.told shelf.old other }
-    ensures grows { (other : List ℕ) → H.faults shelf.old other ≤ H.faults shelf.new other }
-    ensures stands { Stand (H.faults shelf.old) (H.faults shelf.new) result }
+    ensures left { Leaves (H.told shelf.old) (H.told shelf.new) (H.faults shelf.old) (H.faults shelf.new) result }
 {
     let bytes = load(alloc, shelf, file, LONGEST_FILE)?;
     match read_file(alloc, &bytes) {
@@ -80,9 +76,7 @@ fn load_evidence<'a, H: Shelf>(
 ) -> Result<Evidence, Halt<'a>>
     ensures evidence { IfOk result (IsEvidenceOf (H.told shelf.old) name.now) }
     ensures no_evidence { IfErr result (λ h. OnEnded h (HasNoEvidence (H.told shelf.old) (H.faults shelf.old) (H.faults shelf.new) name.now)) }
-    ensures held { (other : List ℕ) → H.told shelf.new other ≡ H.told shelf.old other }
-    ensures grows { (other : List ℕ) → H.faults shelf.old other ≤ H.faults shelf.new other }
-    ensures stands { Stand (H.faults shelf.old) (H.faults shelf.new) result }
+    ensures left { Leaves (H.told shelf.old) (H.told shelf.new) (H.faults shelf.old) (H.faults shelf.new) result }
 {
     let bytes = load(alloc, shelf, name, LONGEST_EVIDENCE)?;
     match read_evidence(alloc, &bytes) {
@@ -101,9 +95,7 @@ pub fn load_pair<'a, H: Shelf>(
 ) -> Result<(Spec, Evidence), Halt<'a>>
     ensures pair { IfOk result (λ pair. ArePairOf (H.told shelf.old) file.now evidence.now pair.0 pair.1) }
     ensures no_pair { IfErr result (λ h. OnEnded h (HasNoPair (H.told shelf.old) (H.faults shelf.old) (H.faults shelf.new) file.now evidence.now)) }
-    ensures held { (other : List ℕ) → H.told shelf.new other ≡ H.told shelf.old other }
-    ensures grows { (other : List ℕ) → H.faults shelf.old other ≤ H.faults shelf.new other }
-    ensures stands { Stand (H.faults shelf.old) (H.faults shelf.new) result }
+    ensures left { Leaves (H.told shelf.old) (H.told shelf.new) (H.faults shelf.old) (H.faults shelf.new) result }
 {
     let spec = load_spec(alloc, shelf, file)?;
     let evidence = load_evidence(alloc, shelf, evidence)?;

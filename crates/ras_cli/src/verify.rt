@@ -5,7 +5,7 @@ ghost use Rattle.ras_cli.specs.declared.outcome.Outcome.{Outcome};
 ghost use Rattle.ras_cli.specs.Words.{texts, Request, Asks, IsNoCommand};
 ghost use Rattle.ras_cli.specs.Putting.{PutsFront};
 ghost use Rattle.ras_cli.specs.Answers.{status_of, text_of};
-ghost use Rattle.ras_cli.specs.Loads.{CountsStand, StandUnless, StandOrRose, Comes, ToldToComeTo, IsCutOff};
+ghost use Rattle.ras_cli.specs.Loads.{CountsStand, IsUnread, StandOrRose, Comes, ToldToComeTo, IsCutOff};
 ghost use Rattle.ras_cli.specs.Done.{IsDone};
 
 use crate::commands::carried_out;
@@ -27,7 +27,7 @@ fn outcome<'a, H: Shelf>(
     ensures comes { IfOk result (Comes (texts words.now) (H.told shelf.old) (H.faults shelf.old) (H.faults shelf.new)) }
     ensures held { (name : List ℕ) → H.told shelf.new name ≡ H.told shelf.old name }
     ensures grows { (name : List ℕ) → H.faults shelf.old name ≤ H.faults shelf.new name }
-    ensures stands { MatchResult result (StandUnless (H.faults shelf.old) (H.faults shelf.new)) (λ e. CountsStand (H.faults shelf.old) (H.faults shelf.new)) }
+    ensures stands { MatchResult result (λ outcome. ¬ IsUnread outcome → CountsStand (H.faults shelf.old) (H.faults shelf.new)) (λ e. CountsStand (H.faults shelf.old) (H.faults shelf.new)) }
 {
     let Some(task) = asked(words) else {
         return Ok(Outcome::NoCommand);
