@@ -14,8 +14,6 @@ mod literals;
 mod shape_lines;
 mod step_lines;
 mod system_lines;
-#[cfg(test)]
-mod tests;
 mod worked;
 
 pub use bundle::{Bundle, read_bundle};

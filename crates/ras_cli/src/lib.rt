@@ -3,8 +3,6 @@
 #![tactic(auto)]
 
 mod commands;
-#[cfg(test)]
-mod evidence_tests;
 mod judging;
 mod law;
 mod loading;

@@ -3,333 +3,292 @@ ghost use Rattle.ras_outside.specs.Told.{untold};
 use crate::verify_quiet;
 use ras_outside::{LoadFault, MemShelf, MemSink, Shelf};
 use std::alloc::{AllocError, Global};
+use std::process::Abort;
 use std::test::Fail;
 use std::thread::Threads;
 
-// One variable, which is never assigned, and the unsafe formula `x != undef`.
-const ONE_VARIABLE: &[u8] = b"bundle 1
-sorts 1
-functions 0
-consts 0
-variables 1
-variable 0 none
-transitions 0
-unsafe 1
-cube 0 1 v0!=u0
-evidence 1 safe
-formulas 1
-cube 0 1 v0!=u0
-trees 2
-tree leaf
-tree split 0 0 1 leaf
-end
-";
+/// A text, as pieces that stand so many times; in a piece `#` stands for the number of the turn.
+type Pieces = &'static [(u32, &'static str)];
 
-// Three constants, a variable that is the first of them, a step from the second to the third, and the third is unsafe.
-const ONE_STEP: &[u8] = b"bundle 1
-sorts 1
-functions 0
-consts 3 0 0 0
-variables 1
-variable 0 0
-transitions 1
-guard 1
-cube 0 1 v0=c1
-updates 1
-update 0 c2
-unsafe 1
-cube 0 1 v0=c2
-evidence 1 safe
-formulas 2
-cube 0 1 v0=c2
-cube 0 1 v0=c1
-trees 5
-tree leaf
-tree leaf
-tree split 0 0 1 leaf
-tree split 1 0 1 leaf
-tree leaf
-end
-";
+/// The words, the specification or bundle `f`, the evidence `e`, the status, and the output.
+type Row = (&'static str, Pieces, &'static str, u8, Pieces);
 
-const USAGE: &[u8] =
-    b"REFUSED words\nusage:\n  rasprove check FILE EVIDENCE\n  rasprove check BUNDLE\n  rasprove replay FILE EVIDENCE\n  rasprove print FILE\n";
+/// Any user applies for any job, where its owner alone should.
+const HIRING: Pieces = &[(
+    1,
+    "system hiring; sort User; sort Job; total owner : Job -> User; relation apps (job : Job, who : User);
+step apply { row a : apps; param j : Job; param u : User; when a.job = undef and j != undef and u != undef; a.job := j; a.who := u; }
+step withdraw { row a : apps; when a.job != undef; a.job := undef; a.who := undef; }
+unsafe { row a : apps; when a.who != owner(a.job); }",
+)];
 
-fn words_of(alloc: Global, words: &[&str]) -> Result<Vec<String>, AllocError> {
-    let mut all = Vec::new(alloc);
-    for word in words {
-        all.push(String::from_str(alloc, word)?)?;
-    }
-    Ok(all)
-}
+const DESK: Pieces = &[(
+    1,
+    "system desk; sort U; const on : U; const off : U; var m : U = off; relation seat (s : U);
+step take { row a : seat; when a.s = undef; a.s := on; }
+step clear { row a : seat; when a.s = on; m := on; each q : seat { if q.s = on { q.s := off; } if q.s = undef { q.s := on; } } }
+unsafe { row a : seat; row b : seat; when a.s = off and b.s = on; }",
+)];
 
-/// A shelf that holds one file, named `b`, and whose loads fail as listed.
-fn shelf_of(alloc: Global, content: &[u8], failing: &[u64]) -> Result<MemShelf, AllocError> {
-    let file = (
-        String::from_str(alloc, "b")?,
-        Vec::from_slice(alloc, content)?,
-    );
-    Ok(MemShelf::new(vec![in alloc; file]?, Vec::from_slice(alloc, failing)?))
-}
+const GROW: Pieces = &[(
+    1,
+    "system grow; sort A; var x : A; step pick { param p : A; when p != undef; x := p; } unsafe { when x != undef; }",
+)];
 
-/// Whether the words end so where the file `b` has this content.
-fn ends<R: Threads + Sync>(
-    rt: &R,
-    alloc: Global,
-    words: &[&str],
-    content: &[u8],
-    status: u8,
-    written: &[u8],
-) -> Result<bool, Fail> {
-    let words = words_of(alloc, words)?;
-    let mut shelf = shelf_of(alloc, content, &[])?;
-    let mut out = MemSink::new(alloc, 2_048, Vec::new(alloc))?;
-    let ended = verify_quiet(rt, alloc, &words, &mut shelf, &mut out);
-    Ok(ended == status && out.written() == written)
-}
+const STILL: Pieces = &[(
+    1,
+    "system s; sort A; var x : A; unsafe { when x != undef; }",
+)];
 
-/// Whether `check b` ends so over a file of this content.
-fn checks<R: Threads + Sync>(
-    rt: &R,
-    alloc: Global,
-    content: &[u8],
-    status: u8,
-    written: &[u8],
-) -> Result<bool, Fail> {
-    ends(rt, alloc, &["check", "b"], content, status, written)
-}
+const TWO: Pieces = &[(
+    1,
+    "system two; sort A; const a : A; const b : A; const c : A; var x : A = a; step go { when x = b; x := c; } unsafe { when x = c; }",
+)];
 
-/// Whether `print b` ends so over a file of this content.
-fn prints<R: Threads + Sync>(
-    rt: &R,
-    alloc: Global,
-    content: &[u8],
-    status: u8,
-    written: &[u8],
-) -> Result<bool, Fail> {
-    ends(rt, alloc, &["print", "b"], content, status, written)
-}
+const BUNDLE: Pieces = &[(
+    1,
+    "bundle 1\nsorts 1\nfunctions 0\nconsts 0\nvariables 1\nvariable 0 none\ntransitions 0\nunsafe 1\ncube 0 1 v0!=u0\nevidence 1 safe\nformulas 1\ncube 0 1 v0!=u0\ntrees 2\ntree leaf\ntree split 0 0 1 leaf\nend\n",
+)];
 
-/// The texts, one behind the other.
-fn joined(alloc: Global, texts: &[&[u8]]) -> Result<Vec<u8>, AllocError> {
-    let mut all = Vec::new(alloc);
-    for text in texts {
-        all.extend_from_slice(text)?;
-    }
-    Ok(all)
-}
+const DECLARATIONS: Pieces = &[
+    (1, "system w;\nsort A;\n"),
+    (256, "const c# : A;\n"),
+    (64, "var x# : A;\n"),
+];
 
-// An evidence of safety for systems without goals.
-const NOTHING_UNSAFE: &[u8] = b"evidence 1 safe\nformulas 0\ntrees 0\nend\n";
+const CANONICAL: Pieces = &[(
+    1,
+    "system p;\nsort A;\nsort B;\nnullable n : B -> A;\nvar x : A;\nunsafe {\n  when n(undef) != x or true;\n}\n",
+)];
 
-/// A text so many times.
-fn times(alloc: Global, text: &[u8], count: usize) -> Result<Vec<u8>, AllocError> {
-    let mut all = Vec::new(alloc);
-    for _ in 0..count {
-        all.extend_from_slice(text)?;
-    }
-    Ok(all)
-}
+const USAGE: Pieces = &[(
+    1,
+    "REFUSED words\nusage:\n  rasprove check FILE EVIDENCE\n  rasprove check BUNDLE\n  rasprove replay FILE EVIDENCE\n  rasprove print FILE\n",
+)];
 
-/// Whether a bundle that ends its system part with so many items, and these lines behind them, ends so.
-fn counts<R: Threads + Sync>(
-    rt: &R,
-    alloc: Global,
-    front: &[u8],
-    item: &[u8],
-    count: usize,
-    behind: &[u8],
-    written: &[u8],
-) -> Result<bool, Fail> {
-    let items = times(alloc, item, count)?;
-    let content = joined(
-        alloc,
-        &[b"bundle 1\n", front, &items, behind, NOTHING_UNSAFE],
-    )?;
-    let status = if written.starts_with(b"VALID") {
-        0
-    } else if written.starts_with(b"REFUSED") {
-        30
-    } else {
-        31
-    };
-    checks(rt, alloc, &content, status, written)
-}
+/// Each kind of answer, worked out by hand.
+const ROWS: &[Row] = &[
+    (
+        "check f e",
+        HIRING,
+        "evidence 1 unsafe\nsizes 2 2 1\ntables 1\ntable 1 1\nconstants 0\nvars 0\nrelations 1\nrows 1\nrow 2 0 0\nsteps 1\nstep 0 1 0 2 1 2\nend\n",
+        0,
+        &[(1, "VALID UNSAFE\n")],
+    ),
+    (
+        "check f e",
+        GROW,
+        "evidence 1 unsafe\nsizes 1 0\ntables 0\nconstants 0\nvars 1 0\nrelations 0\nsteps 1\nstep 0 0 1 1\nend\n",
+        31,
+        &[(1, "INVALID step 0 VALUE_OUTSIDE\n")],
+    ),
+    (
+        "check f e",
+        TWO,
+        "evidence 1 safe\nformulas 2\ncube 0 1 v0=c2\ncube 0 1 v0=c1\ntrees 5\ntree leaf\ntree leaf\ntree split 0 0 1 leaf\ntree split 1 0 1 leaf\ntree leaf\nend\n",
+        0,
+        &[(1, "VALID SAFE\n")],
+    ),
+    (
+        "print f",
+        &[(
+            1,
+            "system s;\nsort A;\nsort B;\ntotal f : A -> B;\ntotal g : B -> A;\n",
+        )],
+        "",
+        30,
+        &[(1, "REFUSED file AT 50 CYCLE B A\n")],
+    ),
+    (
+        "print f",
+        &[
+            (1, "system w;\nsort A;\nvar x : A;\nunsafe { when x = undef"),
+            (64, " or x = undef"),
+            (1, "; }"),
+        ],
+        "",
+        30,
+        &[(1, "REFUSED file AT 875 TOO_WIDE\n")],
+    ),
+    (
+        "print f",
+        &[
+            (1, "system w;\nsort A;\nvar x : A;\nunsafe { when x = undef"),
+            (63, " or x = undef"),
+            (1, "; }"),
+        ],
+        "",
+        0,
+        &[
+            (
+                1,
+                "system w;\nsort A;\nvar x : A;\nunsafe {\n  when x = undef",
+            ),
+            (63, " or x = undef"),
+            (1, ";\n}\n"),
+        ],
+    ),
+    (
+        "check f e",
+        STILL,
+        "evidence 1 safe\nformulas 1\ncube 0 1 v0!=u0\ntrees 2\ntree leaf\ntree split 0 0 0\nend\n",
+        31,
+        &[(1, "INVALID obligation 1 node 0 CHILDREN\n")],
+    ),
+    (
+        "check f e",
+        STILL,
+        "evidence 1 safe\nformulas 1\ncube 0 1 v0!=u0\ntrees 2\ntree leaf\ntree leaf\nend\n",
+        31,
+        &[(1, "INVALID obligation 1 node 0 NO_CLASH\n")],
+    ),
+    (
+        "check f e",
+        STILL,
+        "evidence 1 safe\nformulas 1\ncube 0 1 v0",
+        31,
+        &[(1, "REFUSED evidence LINE 3 ENDED\n")],
+    ),
+    (
+        "replay f e",
+        DESK,
+        "evidence 1 unsafe\nsizes 1 2\ntables 0\nconstants 2 1 2\nvars 1 2\nrelations 1\nrows 3\nrow 1 0\nrow 1 0\nrow 1 0\nsteps 3\nstep 0 1 0 0\nstep 0 1 1 0\nstep 1 1 1 0\nend\n",
+        0,
+        &[(
+            1,
+            "state 0 vars 1 2 rows 3 0 0 0\nstate 1 vars 1 2 rows 3 1 0 0\nstate 2 vars 1 2 rows 3 1 1 0\nstate 3 vars 1 1 rows 3 2 1 1\nmeets 0 rows 2 0 1\n",
+        )],
+    ),
+    (
+        "replay f e",
+        DESK,
+        "evidence 1 unsafe\nsizes 1 2\ntables 0\nconstants 2 1 2\nvars 1 2\nrelations 1\nrows 3\nrow 1 0\nrow 1 0\nrow 1 0\nsteps 3\nstep 0 1 0 0\nstep 0 1 0 0\nstep 1 1 1 0\nend\n",
+        31,
+        &[(1, "INVALID step 1 GUARD_FALSE\n")],
+    ),
+    ("print f", &[], "", 30, &[(1, "REFUSED file AT 0 SYNTAX\n")]),
+    (
+        "print f",
+        &[(1_048_577, " ")],
+        "",
+        32,
+        &[(1, "REFUSED long f\n")],
+    ),
+    (
+        "print f",
+        &[(
+            1,
+            "system p;sort A;sort B;nullable n:B->A;var x:A;unsafe{when n(undef)!=x or true;}",
+        )],
+        "",
+        0,
+        CANONICAL,
+    ),
+    ("print f", CANONICAL, "", 0, CANONICAL),
+    ("check f", BUNDLE, "", 0, &[(1, "VALID SAFE\n")]),
+    ("", &[], "", 40, USAGE),
+];
 
-#[test]
-fn each_limit_is_kept_and_not_passed(rt: HostRuntime) -> Result<(), Fail> {
-    let alloc = rt.alloc();
-    let valid = b"VALID SAFE\n";
-    let open = b"INVALID trees COUNT\n";
-    let rest = b"consts 0\nvariables 0\ntransitions 0\nunsafe 0\n";
-    let none = b"functions 0\n";
-    let sorts = joined(alloc, &[none, rest])?;
-    let refused = b"REFUSED bundle LINE 2 LIMIT\n";
-    assert!(rt; counts(&rt, alloc, b"sorts 64\n", b"", 0, &sorts, valid)?);
-    assert!(rt; counts(&rt, alloc, b"sorts 65\n", b"", 0, &sorts, refused)?);
-    let function = b"function 0 1 total\n";
-    let most = b"sorts 2\nfunctions 256\n";
-    let more = b"sorts 2\nfunctions 257\n";
-    let refused = b"REFUSED bundle LINE 3 LIMIT\n";
-    assert!(rt; counts(&rt, alloc, most, function, 256, rest, valid)?);
-    assert!(rt; counts(&rt, alloc, more, function, 257, rest, refused)?);
-    let variable =
-        b"sorts 1\nfunctions 0\nconsts 0\nvariables 1\nvariable 0 none\ntransitions 0\nunsafe 1\n";
-    let most = joined(alloc, &[variable, b"cube 0 128"])?;
-    let more = joined(alloc, &[variable, b"cube 0 129"])?;
-    let refused = b"REFUSED bundle LINE 9 LIMIT\n";
-    assert!(rt; counts(&rt, alloc, &most, b" v0=v0", 128, b"\n", open)?);
-    assert!(rt; counts(&rt, alloc, &more, b" v0=v0", 129, b"\n", refused)?);
-    let goals = b"sorts 1\nfunctions 0\nconsts 0\nvariables 0\ntransitions 0\nunsafe ";
-    let most = joined(alloc, &[goals, b"64\n"])?;
-    let more = joined(alloc, &[goals, b"65\n"])?;
-    let refused = b"REFUSED bundle LINE 7 LIMIT\n";
-    assert!(rt; counts(&rt, alloc, &most, b"cube 0 0\n", 64, b"", open)?);
-    assert!(rt; counts(&rt, alloc, &more, b"cube 0 0\n", 65, b"", refused)?);
-    Ok(())
-}
-
-#[test]
-fn words_of_no_command_are_refused_with_the_usage_lines(rt: HostRuntime) -> Result<(), Fail> {
-    let alloc = rt.alloc();
-    let none: &[&str] = &[];
-    let refused = [
-        none,
-        &["check"],
-        &["check", "a", "b", "c"],
-        &["check", "-x"],
-        &["check", "--"],
-        &["check", "-x", "--", "a"],
-        &["check", "--", "a", "b", "--"],
-        &["print"],
-        &["print", "a", "b"],
-        &["print", "--x", "--"],
-        &["replay", "b"],
-        &["verify", "b"],
-    ];
-    for words in refused {
-        let mut shelf = shelf_of(alloc, ONE_VARIABLE, &[])?;
-        let mut out = MemSink::new(alloc, 200, Vec::new(alloc))?;
-        let words = words_of(alloc, words)?;
-        assert_eq!(rt; verify_quiet(&rt, alloc, &words, &mut shelf, &mut out), 40);
-        assert_eq!(rt; out.written(), USAGE);
+/// The number of a turn in decimal digits, for each `#`.
+fn add(alloc: Global, text: &mut Vec<u8>, piece: &str, number: u32) -> Result<(), AllocError> {
+    for byte in piece.bytes() {
+        if byte == b'#' {
+            let digits = format!(in alloc; "{number}")?;
+            text.extend_from_slice(digits.as_bytes())?;
+        } else {
+            text.push(byte)?;
+        }
     }
     Ok(())
 }
 
-#[test]
-fn the_name_of_a_file_may_stand_behind_two_dashes(rt: HostRuntime) -> Result<(), Fail> {
-    let alloc = rt.alloc();
-    let valid = b"VALID SAFE\n";
-    assert!(rt; ends(&rt, alloc, &["check", "--", "b"], ONE_VARIABLE, 0, valid)?);
-    assert!(rt; ends(&rt, alloc, &["check", "b", "--"], ONE_VARIABLE, 0, valid)?);
-    let dash = b"REFUSED read -\n";
-    assert!(rt; ends(&rt, alloc, &["check", "-"], ONE_VARIABLE, 50, dash)?);
-    let option = b"REFUSED read -x\n";
-    assert!(rt; ends(&rt, alloc, &["print", "--", "-x"], ONE_VARIABLE, 50, option)?);
-    assert!(rt; ends(&rt, alloc, &["replay", "-x"], ONE_VARIABLE, 40, USAGE)?);
-    assert!(rt;
-        ends(
-            &rt,
-            alloc,
-            &["replay", "--", "-x", "b"],
-            ONE_VARIABLE,
-            50,
-            option
-        )?
-    );
-    let dashes = b"REFUSED read --\n";
-    assert!(rt; ends(&rt, alloc, &["check", "--", "--"], ONE_VARIABLE, 50, dashes)?);
-    let empty = b"REFUSED read \n";
-    assert!(rt; ends(&rt, alloc, &["check", ""], ONE_VARIABLE, 50, empty)?);
-    Ok(())
-}
-
-// A text that is its own canonical one.
-const CANONICAL: &[u8] = b"system p;
-sort A;
-sort B;
-nullable n : B -> A;
-var x : A;
-unsafe {
-  when n(undef) != x or true;
-}
-";
-
-#[test]
-fn a_specification_is_printed_in_its_canonical_text(rt: HostRuntime) -> Result<(), Fail> {
-    let alloc = rt.alloc();
-    let dense = b"system p;sort A;sort B;nullable n:B->A;var x:A;unsafe{when n(undef)!=x or true;}";
-    assert!(rt; prints(&rt, alloc, dense, 0, CANONICAL)?);
-    assert!(rt; prints(&rt, alloc, CANONICAL, 0, CANONICAL)?);
-    Ok(())
-}
-
-#[test]
-fn a_file_that_denotes_no_system_is_refused_at_its_first_fault(
-    rt: HostRuntime,
-) -> Result<(), Fail> {
-    let alloc = rt.alloc();
-    let cycle = b"system s;\nsort A;\nsort B;\ntotal f : A -> B;\ntotal g : B -> A;\n";
-    let refused = b"REFUSED file AT 50 CYCLE B A\n";
-    assert!(rt; prints(&rt, alloc, cycle, 30, refused)?);
-    assert!(rt; prints(&rt, alloc, b"", 30, b"REFUSED file AT 0 SYNTAX\n")?);
-    Ok(())
-}
-
-/// A file whose unsafe formula has so many disjuncts more than one.
-fn disjuncts(alloc: Global, more: usize) -> Result<Vec<u8>, AllocError> {
-    let others = times(alloc, b" or x = undef", more)?;
-    let front = b"system w;\nsort A;\nvar x : A;\nunsafe {";
-    joined(alloc, &[front, b" when x = undef", &others, b"; }"])
-}
-
-#[test]
-fn sixty_four_disjuncts_are_printed_and_one_more_is_refused(rt: HostRuntime) -> Result<(), Fail> {
-    let alloc = rt.alloc();
-    let most = disjuncts(alloc, 63)?;
-    let others = times(alloc, b" or x = undef", 63)?;
-    let front = b"system w;\nsort A;\nvar x : A;\nunsafe {\n ";
-    let printed = joined(alloc, &[front, b" when x = undef", &others, b";\n}\n"])?;
-    assert!(rt; prints(&rt, alloc, &most, 0, &printed)?);
-    let more = disjuncts(alloc, 64)?;
-    let refused = b"REFUSED file AT 875 TOO_WIDE\n";
-    assert!(rt; prints(&rt, alloc, &more, 30, refused)?);
-    Ok(())
-}
-
-#[test]
-fn a_specification_is_no_longer_than_its_limit(rt: HostRuntime) -> Result<(), Fail> {
-    let alloc = rt.alloc();
-    let mut longest = times(alloc, b" ", 1_048_567)?;
-    longest.extend_from_slice(b"system s;")?;
-    assert!(rt; prints(&rt, alloc, &longest, 0, b"system s;\n")?);
-    longest.push(b' ')?;
-    assert!(rt; prints(&rt, alloc, &longest, 32, b"REFUSED long b\n")?);
-    Ok(())
-}
-
-/// A file with so many constants and variables.
-fn declarations(alloc: Global, constants: usize, vars: usize) -> Result<Vec<u8>, AllocError> {
-    let mut text = Vec::from_slice(alloc, b"system w;\nsort A;\n")?;
-    for n in 0..constants {
-        let line = format!(in alloc; "const c{n} : A;\n")?;
-        text.extend_from_slice(line.as_bytes())?;
-    }
-    for n in 0..vars {
-        let line = format!(in alloc; "var x{n} : A;\n")?;
-        text.extend_from_slice(line.as_bytes())?;
+fn text_of(alloc: Global, pieces: Pieces) -> Result<Vec<u8>, AllocError> {
+    let mut text = Vec::new(alloc);
+    for (times, piece) in pieces {
+        for number in 0..*times {
+            add(alloc, &mut text, *piece, number)?;
+        }
     }
     Ok(text)
 }
 
+fn words_of(alloc: Global, line: &str) -> Result<Vec<String>, AllocError> {
+    let mut words = Vec::new(alloc);
+    for word in line.split_whitespace() {
+        words.push(String::from_str(alloc, word)?)?;
+    }
+    Ok(words)
+}
+
+/// A shelf that holds `f` and `e`, and whose second load fails where it should.
+fn shelf_of(
+    alloc: Global,
+    file: Pieces,
+    evidence: &str,
+    fails: bool,
+) -> Result<MemShelf, AllocError> {
+    let file = (String::from_str(alloc, "f")?, text_of(alloc, file)?);
+    let evidence = (
+        String::from_str(alloc, "e")?,
+        Vec::from_slice(alloc, evidence.as_bytes())?,
+    );
+    let mut failing = Vec::new(alloc);
+    if fails {
+        failing.push(2)?;
+    }
+    Ok(MemShelf::new(vec![in alloc; file, evidence]?, failing))
+}
+
+/// Whether the words end over this shelf with this status and output.
+fn ends<R: Threads + Sync, H: Shelf>(
+    rt: &R,
+    alloc: Global,
+    line: &str,
+    shelf: &mut H,
+    status: u8,
+    output: &[u8],
+) -> Result<bool, AllocError> {
+    let words = words_of(alloc, line)?;
+    let mut out = MemSink::new(alloc, 8_192, Vec::new(alloc))?;
+    let ended = verify_quiet(rt, alloc, &words, shelf, &mut out);
+    Ok(ended == status && out.written() == output)
+}
+
+fn expect<R: Threads + Sync + Abort>(rt: &R, alloc: Global, row: Row) -> Result<(), AllocError> {
+    let (line, file, evidence, status, output) = row;
+    let mut shelf = shelf_of(alloc, file, evidence, false)?;
+    let output = text_of(alloc, output)?;
+    assert!(rt;
+        ends(rt, alloc, line, &mut shelf, status, &output)?,
+        "{line}"
+    );
+    Ok(())
+}
+
 #[test]
-fn a_printed_text_is_put_in_pieces(rt: HostRuntime) -> Result<(), Fail> {
+fn each_kind_of_answer_comes_as_it_was_worked_out(rt: HostRuntime) -> Result<(), Fail> {
+    for row in ROWS {
+        expect(&rt, rt.alloc(), *row)?;
+    }
+    Ok(())
+}
+
+#[test]
+fn a_load_that_fails_is_told_with_its_name(rt: HostRuntime) -> Result<(), Fail> {
     let alloc = rt.alloc();
-    let content = declarations(alloc, 256, 64)?;
+    let mut shelf = shelf_of(alloc, &[(1, "system s; sort A;")], "", true)?;
+    assert!(rt; ends(&rt, alloc, "check f e", &mut shelf, 50, b"REFUSED read e\n")?);
+    Ok(())
+}
+
+/// A file of 4,826 bytes is its own canonical text; the second piece of it is cut off after ten bytes.
+#[test]
+fn a_put_that_fails_leaves_a_front_of_the_text(rt: HostRuntime) -> Result<(), Fail> {
+    let alloc = rt.alloc();
+    let content = text_of(alloc, DECLARATIONS)?;
     assert_eq!(rt; content.len(), 4_826);
-    let words = words_of(alloc, &["print", "b"])?;
-    let mut shelf = shelf_of(alloc, &content, &[])?;
+    let words = words_of(alloc, "print f")?;
+    let mut shelf = shelf_of(alloc, DECLARATIONS, "", false)?;
     let mut out = MemSink::new(alloc, 5_000, vec![in alloc; (2, 10)]?)?;
     assert_eq!(rt; verify_quiet(&rt, alloc, &words, &mut shelf, &mut out), 51);
     assert_eq!(rt; out.written().len(), 4_106);
@@ -352,43 +311,17 @@ impl Shelf for LongShelf {
 }
 
 #[test]
-fn a_load_that_fails_or_is_too_long_is_told_with_the_name(rt: HostRuntime) -> Result<(), Fail> {
+fn a_bundle_that_is_too_long_is_told_with_its_name(rt: HostRuntime) -> Result<(), Fail> {
     let alloc = rt.alloc();
-    let words = words_of(alloc, &["check", "b"])?;
-    let mut failing = shelf_of(alloc, ONE_VARIABLE, &[1])?;
-    let mut out = MemSink::new(alloc, 100, Vec::new(alloc))?;
-    assert_eq!(rt;
-        verify_quiet(&rt, alloc, &words, &mut failing, &mut out),
-        50
+    assert!(rt;
+        ends(
+            &rt,
+            alloc,
+            "check b",
+            &mut LongShelf,
+            32,
+            b"REFUSED long b\n"
+        )?
     );
-    assert_eq!(rt;
-        verify_quiet(&rt, alloc, &words, &mut LongShelf, &mut out),
-        32
-    );
-    assert_eq!(rt;
-        out.written(),
-        b"REFUSED read b\nREFUSED long b\n".as_slice()
-    );
-    Ok(())
-}
-
-#[test]
-fn a_put_that_fails_leaves_a_front_of_the_text(rt: HostRuntime) -> Result<(), Fail> {
-    let alloc = rt.alloc();
-    let words = words_of(alloc, &["check", "b"])?;
-    let mut shelf = shelf_of(alloc, ONE_VARIABLE, &[])?;
-    let mut out = MemSink::new(alloc, 100, vec![in alloc; (1, 3)]?)?;
-    assert_eq!(rt; verify_quiet(&rt, alloc, &words, &mut shelf, &mut out), 51);
-    assert_eq!(rt; out.written(), b"VAL".as_slice());
-
-    // A text of 5,014 bytes is put in two pieces, of which the second fails after ten bytes.
-    let mut name = String::new(alloc);
-    for _ in 0..5_000 {
-        name.push('n')?;
-    }
-    let words = vec![in alloc; String::from_str(alloc, "check")?, name]?;
-    let mut out = MemSink::new(alloc, 5_014, vec![in alloc; (2, 10)]?)?;
-    assert_eq!(rt; verify_quiet(&rt, alloc, &words, &mut shelf, &mut out), 51);
-    assert_eq!(rt; out.written().len(), 4_106);
     Ok(())
 }

@@ -21,5 +21,3 @@ mod updates;
 pub use elaborating::{Spec, elaborate};
 pub use fault::SpecError;
 
-#[cfg(test)]
-mod tests;

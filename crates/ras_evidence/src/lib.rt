@@ -11,8 +11,6 @@ mod parts;
 mod places;
 mod reading;
 mod safe;
-#[cfg(test)]
-mod tests;
 mod value;
 mod worked;
 

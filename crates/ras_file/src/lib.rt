@@ -6,8 +6,6 @@ mod fault;
 pub mod law;
 mod reading;
 mod refusal;
-#[cfg(test)]
-mod tests;
 
 pub use fault::{FileError, FileFault, FileKind};
 pub use reading::read_file;

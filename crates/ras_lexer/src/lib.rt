@@ -16,5 +16,3 @@ pub use lexing::tokens;
 pub use text::Text;
 pub use token::{Token, Word};
 
-#[cfg(test)]
-mod tests;

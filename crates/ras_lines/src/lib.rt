@@ -9,8 +9,6 @@ mod law;
 mod lines;
 mod spelled;
 mod stop;
-#[cfg(test)]
-mod tests;
 mod trees;
 mod words;
 

@@ -13,5 +13,3 @@ mod steps;
 
 pub use printing::print;
 
-#[cfg(test)]
-mod tests;

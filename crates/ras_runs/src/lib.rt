@@ -7,8 +7,6 @@ mod law;
 mod number_lines;
 mod runs;
 mod step_line;
-#[cfg(test)]
-mod tests;
 
 pub use databases::read_database;
 pub use law::{databases_are_read_exactly, runs_are_read_exactly};

@@ -19,5 +19,3 @@ pub use tree::{
     Param, Relation, Row, Sort, Step, Term, Totality, Update, Variable,
 };
 
-#[cfg(test)]
-mod tests;

@@ -20,5 +20,3 @@ pub use replayed::replay_text;
 pub use violation_fault::{ViolationError, ViolationFault};
 pub use writing::{put, put_number};
 
-#[cfg(test)]
-mod tests;
