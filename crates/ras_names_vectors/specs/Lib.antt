@@ -1,13 +1,5 @@
 pub mod Words
-pub mod Base
-pub mod Declarations
-pub mod Scopes
-pub mod Uses
-pub mod Bulk
-pub mod Sorts
-pub mod Targets
-pub mod Orders
-pub mod Many
+pub mod Wrong
 pub mod Processes
 pub mod Denoted
 pub mod Tokens

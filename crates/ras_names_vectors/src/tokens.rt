@@ -4,7 +4,7 @@ ghost use Rattle.ras_names.specs.PlacedTokens.{IsFileOf};
 ghost use Rattle.ras_names.specs.Faults.{IsFirstFault};
 ghost use Rattle.ras_names.specs.Texts.{TokensDenote};
 ghost use Rattle.ras_names_vectors.specs.Words.{name, fault};
-ghost use Rattle.ras_names_vectors.specs.Sorts.{cycle_of_two};
+ghost use Rattle.ras_names_vectors.specs.Wrong.{cycle_of_two};
 ghost use Rattle.ras_names_vectors.specs.Processes.{nullable_text};
 ghost use Rattle.ras_names_vectors.specs.Denoted.{nullable_system, nullable_names};
 ghost use Rattle.ras_names_vectors.specs.Tokens.{cycle_tokens, nullable_tokens};

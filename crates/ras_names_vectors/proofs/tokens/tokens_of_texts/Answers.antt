@@ -1,7 +1,7 @@
 use Rattle.std.proofs.Common.{◌≡◌, List, ◌∷◌, refl, ap, arith}
 use Rattle.ras_lexer.specs.declared.token.Token.{Token}
 use Rattle.ras_names.specs.Unplaced.{file_of}
-use Rattle.ras_names_vectors.specs.Sorts.{cycle_of_two}
+use Rattle.ras_names_vectors.specs.Wrong.{cycle_of_two}
 use Rattle.ras_names_vectors.specs.Processes.{nullable_text}
 use Rattle.ras_names_vectors.proofs.tokens.tokens_of_texts.Goals as goal
 
