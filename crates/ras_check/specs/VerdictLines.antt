@@ -5,7 +5,7 @@ use Rattle.ras_evidence.specs.declared.value.Evidence.TheVariants.{Safe, Unsafe,
 use Rattle.ras_refute.specs.declared.tree_fault.TreeKind.{TreeKind}
 use Rattle.ras_refute.specs.declared.tree_fault.TreeKind.TheVariants as kind
 use Rattle.ras_refute.specs.declared.tree_fault.TreeFault.{TreeFault}
-use Rattle.ras_violation.specs.ReplayTexts.{word}
+use Rattle.ras_text.specs.Pieces.{word}
 use Rattle.ras_violation.specs.InvalidLines as violation
 use Rattle.ras_check.specs.declared.safe_fault.SafeFault.{SafeFault}
 use Rattle.ras_check.specs.declared.safe_fault.SafeFault.TheVariants as fault

@@ -5,7 +5,7 @@ use crate::safe_fault::SafeFault;
 use crate::verdict::Invalid;
 use ras_evidence::Evidence;
 use ras_refute::{TreeFault, TreeKind};
-use ras_violation::{put, put_number};
+use ras_text::{put, put_word};
 use std::alloc::{AllocError, Global};
 
 /// The line that tells that an evidence is good.
@@ -30,44 +30,39 @@ fn tree_kind(kind: TreeKind) -> &'static [u8]
     }
 }
 
-fn put_formula(out: &mut Vec<u8>, alloc: Global, number: u32) -> Result<(), AllocError>
+fn put_formula(out: &mut Vec<u8>, number: u32) -> Result<(), AllocError>
     ensures { OnOk result (out.new.items ≡ out.old.items ++ formula_text number) }
 {
     put(out, b"INVALID formula")?;
-    put_number(out, alloc, number as usize)?;
+    put_word(out, number as u64)?;
     put(out, b" NOT_FITTING\n")
 }
 
-fn put_node(out: &mut Vec<u8>, alloc: Global, fault: TreeFault) -> Result<(), AllocError>
+fn put_node(out: &mut Vec<u8>, fault: TreeFault) -> Result<(), AllocError>
     ensures { OnOk result (out.new.items ≡ out.old.items ++ node_text fault) }
 {
     put(out, b" node")?;
-    put_number(out, alloc, fault.node as usize)?;
+    put_word(out, fault.node as u64)?;
     put(out, b" ")?;
     put(out, tree_kind(fault.kind))?;
     put(out, b"\n")
 }
 
-fn put_obligation(
-    out: &mut Vec<u8>,
-    alloc: Global,
-    number: u32,
-    fault: TreeFault,
-) -> Result<(), AllocError>
+fn put_obligation(out: &mut Vec<u8>, number: u32, fault: TreeFault) -> Result<(), AllocError>
     ensures { OnOk result (out.new.items ≡ out.old.items ++ obligation_text number fault) }
 {
     put(out, b"INVALID obligation")?;
-    put_number(out, alloc, number as usize)?;
-    put_node(out, alloc, fault)
+    put_word(out, number as u64)?;
+    put_node(out, fault)
 }
 
-fn put_fault(out: &mut Vec<u8>, alloc: Global, fault: SafeFault) -> Result<(), AllocError>
+fn put_fault(out: &mut Vec<u8>, fault: SafeFault) -> Result<(), AllocError>
     ensures { OnOk result (out.new.items ≡ out.old.items ++ safe_text fault) }
 {
     match fault {
-        SafeFault::Formula { number } => put_formula(out, alloc, number),
+        SafeFault::Formula { number } => put_formula(out, number),
         SafeFault::Count => put(out, b"INVALID trees COUNT\n"),
-        SafeFault::Obligation { number, fault } => put_obligation(out, alloc, number, fault),
+        SafeFault::Obligation { number, fault } => put_obligation(out, number, fault),
     }
 }
 
@@ -75,7 +70,7 @@ fn safe_line(alloc: Global, fault: SafeFault) -> Result<Vec<u8>, AllocError>
     ensures { IfOk result (λ text. text.items ≡ safe_text fault) }
 {
     let mut text = Vec::new(alloc);
-    put_fault(&mut text, alloc, fault)?;
+    put_fault(&mut text, fault)?;
     Ok(text)
 }
 

@@ -1,6 +1,7 @@
 -- The status and the text of each outcome.
 use Rattle.std.specs.Prelude.{ℕ, List, [], ◌∷◌, ◌++◌, codes}
 use Rattle.std.specs.Fmt.{decimal}
+use Rattle.ras_text.specs.Pieces.{line}
 use Rattle.ras_file.specs.Refusals.{refusal_text}
 use Rattle.ras_evidence.specs.declared.fault.EvidenceKind.{EvidenceKind}
 use Rattle.ras_evidence.specs.declared.fault.EvidenceKind.TheVariants as fault
@@ -21,10 +22,6 @@ status_of (Invalid f) = 31
 status_of (TooLong name) = 32
 status_of NoCommand = 40
 status_of (NotRead name) = 50
-
--- text and a line feed
-abbrev pub line : List ℕ → List ℕ
-line text = text ++ 10 ∷ []
 
 -- `.. N WORD`: a text, the number of a line, a word
 abbrev pub numbered : List ℕ → ℕ → List ℕ → List ℕ

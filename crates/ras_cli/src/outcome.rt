@@ -1,10 +1,12 @@
-ghost use Rattle.std.specs.Prelude.{◌≡◌, ◌++◌, ◌∷◌, [], IfOk};
+ghost use Rattle.std.specs.Prelude.{◌≡◌, ◌++◌, IfOk};
 ghost use Rattle.ras_cli.specs.Answers.{status_of, text_of, bundle_word as the_bundle_word, fault_word as the_fault_word, reason_word, numbered};
+ghost use Rattle.ras_text.specs.Pieces.{line};
 
 use ras_bundles::BundleKind;
 use ras_check::{Invalid, invalid_line};
 use ras_evidence::EvidenceKind;
 use ras_file::{FileFault, refusal_line};
+use ras_text::{put, put_line, put_number};
 use std::alloc::{AllocError, Global};
 
 /// Why an evidence is not judged.
@@ -88,11 +90,10 @@ fn copied(alloc: Global, words: &[u8]) -> Result<Vec<u8>, AllocError>
 
 /// A line of some words and a name.
 fn line_with(alloc: Global, words: &[u8], name: &str) -> Result<Vec<u8>, AllocError>
-    ensures { IfOk result (λ text. text.items ≡ words.now ++ (name.now ++ 10 ∷ [])) }
+    ensures { IfOk result (λ text. text.items ≡ words.now ++ line name.now) }
 {
-    let mut text = Vec::from_slice(alloc, words)?;
-    text.extend_from_slice(name.as_bytes())?;
-    text.push(b'\n')?;
+    let mut text = copied(alloc, words)?;
+    put_line(&mut text, name.as_bytes())?;
     Ok(text)
 }
 
@@ -105,12 +106,10 @@ fn numbered_line(
 ) -> Result<Vec<u8>, AllocError>
     ensures { IfOk result (λ text. text.items ≡ numbered words.now number word.now) }
 {
-    let digits = number.to_string(alloc)?;
-    let mut text = Vec::from_slice(alloc, words)?;
-    text.extend_from_slice(digits.as_bytes())?;
-    text.push(b' ')?;
-    text.extend_from_slice(word)?;
-    text.push(b'\n')?;
+    let mut text = copied(alloc, words)?;
+    put_number(&mut text, number)?;
+    put(&mut text, b" ")?;
+    put_line(&mut text, word)?;
     Ok(text)
 }
 

@@ -2,6 +2,7 @@ ghost use Rattle.std.specs.Prelude.{◌≡◌, ◌++◌, IfOk, OnOk};
 ghost use Rattle.ras_file.specs.Refusals.{behind_blank, kind_word, kind_names, refusal_text};
 
 use crate::fault::{FileFault, FileKind};
+use ras_text::{put, put_number};
 use std::alloc::{AllocError, Global};
 
 /// The word of a kind.
@@ -23,22 +24,21 @@ fn word(kind: &FileKind) -> &'static [u8]
     }
 }
 
-/// Writes a blank and a text.
-fn put(text: &mut Vec<u8>, more: &[u8]) -> Result<(), AllocError>
-    ensures { OnOk result (text.new.items ≡ text.old.items ++ behind_blank more.now) }
+/// A blank and a text.
+fn put_behind_blank(out: &mut Vec<u8>, text: &[u8]) -> Result<(), AllocError>
+    ensures { OnOk result (out.new.items ≡ out.old.items ++ behind_blank text.now) }
 {
-    text.push(b' ')?;
-    text.extend_from_slice(more)?;
-    Ok(())
+    put(out, b" ")?;
+    put(out, text)
 }
 
-/// Writes the names of the sorts of a cycle.
-fn put_names(text: &mut Vec<u8>, kind: &FileKind) -> Result<(), AllocError>
-    ensures { OnOk result (text.new.items ≡ text.old.items ++ kind_names kind.now) }
+/// The names of the sorts of a cycle.
+fn put_names(out: &mut Vec<u8>, kind: &FileKind) -> Result<(), AllocError>
+    ensures { OnOk result (out.new.items ≡ out.old.items ++ kind_names kind.now) }
 {
     if let FileKind::Cycle { source, target } = kind {
-        put(text, source.bytes())?;
-        put(text, target.bytes())?;
+        put_behind_blank(out, source.bytes())?;
+        put_behind_blank(out, target.bytes())?;
     }
     Ok(())
 }
@@ -49,10 +49,9 @@ pub fn refusal_line(alloc: Global, fault: &FileFault) -> Result<Vec<u8>, AllocEr
     ensures { IfOk result (λ text. text.items ≡ refusal_text fault.now) }
 {
     let mut text = Vec::from_slice(alloc, b"REFUSED file AT ")?;
-    let at = fault.at.to_string(alloc)?;
-    text.extend_from_slice(at.as_bytes())?;
-    put(&mut text, word(&fault.kind))?;
+    put_number(&mut text, u64::from(fault.at))?;
+    put_behind_blank(&mut text, word(&fault.kind))?;
     put_names(&mut text, &fault.kind)?;
-    text.push(b'\n')?;
+    put(&mut text, b"\n")?;
     Ok(text)
 }

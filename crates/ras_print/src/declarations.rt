@@ -3,11 +3,12 @@ ghost use Rattle.ras_names.specs.Canonical.{declared_text, variable_line};
 ghost use Rattle.ras_print.specs.Lookup.{name_at, constant_name};
 ghost use Rattle.ras_print.specs.Printed.{numbered, numbered_list, sort_text, function_text, constant_text, variable_text, relation_column, relation_text};
 
-use crate::lookup::{columns_at, name_at, put, relation_at};
+use crate::lookup::{columns_at, name_at, relation_at};
 use ras_lexer::Text;
 use ras_logic::{ConstId, FunDecl, List, SortId, VarId};
 use ras_names::Names;
 use ras_system::System;
+use ras_text::put;
 use std::alloc::AllocError;
 
 /// A name and what it is of.

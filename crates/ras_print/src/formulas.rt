@@ -5,10 +5,11 @@ ghost use Rattle.ras_print.specs.Items.{base_item, term_item, literal_item, conj
 ghost use Rattle.ras_print.specs.Scopes.{scope_of};
 ghost use Rattle.ras_print.specs.Calls.{fronts, ends};
 
-use crate::lookup::{column_at, name_at, put};
+use crate::lookup::{column_at, name_at};
 use crate::scope::Scope;
 use ras_logic::{Base, FunId, List, Literal, Term};
 use ras_names::Names;
+use ras_text::put;
 use std::alloc::AllocError;
 
 /// What stands in front of a term: each function and a parenthesis, the last function first.

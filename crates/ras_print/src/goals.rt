@@ -3,11 +3,11 @@ ghost use Rattle.ras_names.specs.Canonical.{joined, conjunction_text};
 ghost use Rattle.ras_print.specs.Printed.{first_rows, goal_item, goal_text, goal_texts};
 
 use crate::formulas::put_conjunction;
-use crate::lookup::put;
 use crate::scope::Scope;
 use crate::steps::put_rows;
 use ras_logic::{Cube, RelId};
 use ras_names::{GoalNames, Names};
+use ras_text::put;
 use std::alloc::AllocError;
 
 /// The rows of the first goal.

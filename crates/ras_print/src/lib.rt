@@ -12,4 +12,3 @@ mod scope;
 mod steps;
 
 pub use printing::print;
-

@@ -1,17 +1,9 @@
-ghost use Rattle.std.specs.Prelude.{◌≡◌, ◌++◌, OnOk};
+ghost use Rattle.std.specs.Prelude.{◌≡◌};
 ghost use Rattle.ras_print.specs.Lookup.{name_at, relation_at, columns_at, column_at};
 
 use ras_lexer::Text;
 use ras_logic::RelId;
 use ras_names::Names;
-use std::alloc::AllocError;
-
-/// The bytes behind those that are written already.
-pub(crate) fn put(out: &mut Vec<u8>, text: &[u8]) -> Result<(), AllocError>
-    ensures { OnOk result (out.new.items ≡ out.old.items ++ text.now) }
-{
-    out.extend_from_slice(text)
-}
 
 /// The name of a number; empty where there is none.
 pub(crate) fn name_at(names: &[Text], number: usize) -> &[u8]

@@ -6,10 +6,10 @@ ghost use Rattle.ras_print.specs.Printed.{printed};
 
 use crate::declarations::{put_constants, put_functions, put_relations, put_sorts, put_variables};
 use crate::goals::put_goals;
-use crate::lookup::put;
 use crate::steps::put_steps;
 use ras_names::Names;
 use ras_system::System;
+use ras_text::put;
 use std::alloc::{AllocError, Global};
 
 /// The lines of all items in the order of the grammar.

@@ -6,12 +6,13 @@ ghost use Rattle.ras_print.specs.Scopes.{scope_of};
 
 use crate::declarations::put_declared;
 use crate::formulas::{put_cell, put_conjunction, put_disjuncts, put_term};
-use crate::lookup::{name_at, put, relation_at};
+use crate::lookup::{name_at, relation_at};
 use crate::scope::Scope;
 use ras_lexer::Text;
 use ras_logic::{List, Literal, RelId, SortId};
 use ras_names::{Names, StepNames};
 use ras_system::{Assign, Bulk, Target, Transition, Update};
+use ras_text::put;
 use std::alloc::{AllocError, Global};
 
 fn put_row(

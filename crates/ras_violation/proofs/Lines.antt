@@ -1,6 +1,6 @@
--- What is written one after the other, and one state more of a run.
+-- One state more of a run.
 use Rattle.std.proofs.Common.{◌≡◌, ℕ, ◌+◌, ◌<◌, ◌≤◌, List, [], ◌∷◌, ◌++◌, length, length-append, take, get_or, zero, suc, refl, sym, ◌∙◌, ap, subst, arith, append_assoc, ◌⊎◌, inl, inr}
-use Rattle.std.specs.Prelude.{slice_get, Some, Result, Ok, Err, OnOk}
+use Rattle.std.specs.Prelude.{slice_get, Some}
 use Rattle.std.proofs.lemmas.Option.{same_Some, slice_get_within}
 use Rattle.std.proofs.lemmas.Bool.{cases_lt}
 use Rattle.std.proofs.lemmas.List.{take_all, length-take-le}
@@ -17,14 +17,6 @@ use Rattle.ras_violation.proofs.Paths.{take_twice}
 pub append_nil : {A : Type 0} (xs : List A) → xs ++ [] ≡ xs
 append_nil [] = refl
 append_nil (x ∷ xs) = ap (λ (ys : List _). x ∷ ys) (append_nil xs)
-
--- what is written behind what was written before
-pub behind : (a b c x y : List ℕ) → b ≡ a ++ x → c ≡ b ++ y → c ≡ a ++ (x ++ y)
-behind a b c x y e h = h ∙ ap (λ (z : List ℕ). z ++ y) e ∙ append_assoc a x y
-
-pub on_ok : {T E : Type 0} (r : Result T E) (P Q : Type 0) → (P → Q) → OnOk r P → OnOk r Q
-on_ok (Ok x) P Q f h = f h
-on_ok (Err e) P Q f h = h
 
 pub state_lines-append : (n : ℕ) (states : List State) (s : State) → state_lines n (states ++ s ∷ []) ≡ state_lines n states ++ state_line (n + length states) s
 state_lines-append n [] s = append_nil (state_line n s) ∙ ap (λ (m : ℕ). state_line m s) (let e : n ≡ n + 0 = omega arith in e)

@@ -7,7 +7,7 @@ use Rattle.ras_steps.specs.declared.step_fault.StepFault.TheVariants as step
 use Rattle.ras_steps.specs.declared.replay_fault.ReplayFault.{ReplayFault}
 use Rattle.ras_violation.specs.declared.violation_fault.ViolationFault.{ViolationFault}
 use Rattle.ras_violation.specs.declared.violation_fault.ViolationFault.TheVariants as fault
-use Rattle.ras_violation.specs.ReplayTexts.{word}
+use Rattle.ras_text.specs.Pieces.{word}
 
 abbrev pub database_kind : DbFault → List ℕ
 database_kind (database.WrongLength part place) = codes "WRONG_LENGTH"

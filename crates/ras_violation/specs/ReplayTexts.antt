@@ -1,6 +1,6 @@
 -- What is written of a violation: a line for each state of the run in order, and a line for the first goal that the last one meets.
 use Rattle.std.specs.Prelude.{◌≡◌, ℕ, ◌+◌, List, [], ◌∷◌, ◌++◌, flat_map, codes, length, take, slice_get, Some}
-use Rattle.std.specs.Fmt.{decimal}
+use Rattle.ras_text.specs.Pieces.{word, words, counted}
 use Rattle.ras_logic.specs.declared.raw_db.RawDb.{RawDb}
 use Rattle.ras_system.specs.declared.state.State.{State}
 use Rattle.ras_system.specs.declared.choice.Choice.{Choice}
@@ -9,24 +9,13 @@ use Rattle.ras_system.specs.Runs.{IsRun}
 use Rattle.ras_steps.specs.declared.run.Run.{Run}
 use Rattle.ras_violation.specs.Violations.{IsFirstMet}
 
--- a blank and a number
-abbrev pub word : ℕ → List ℕ
-word n = codes " " ++ decimal n
-
-abbrev pub words : List ℕ → List ℕ
-words xs = flat_map word xs
-
--- how many numbers, and the numbers
-abbrev pub counted : List ℕ → List ℕ
-counted xs = word (length xs) ++ words xs
-
 -- the rows of a relation: how many, and the cells of each
 abbrev pub rows_text : List (List ℕ) → List ℕ
-rows_text rows = codes " rows" ++ (word (length rows) ++ flat_map words rows)
+rows_text rows = codes " rows" ++ counted words rows
 
 -- the line of a state and its number
 abbrev pub state_line : ℕ → State → List ℕ
-state_line number s = codes "state" ++ (word number ++ (codes " vars" ++ (counted s.vars ++ (flat_map rows_text s.relations ++ codes "\n"))))
+state_line number s = codes "state" ++ (word number ++ (codes " vars" ++ (counted word s.vars ++ (flat_map rows_text s.relations ++ codes "\n"))))
 
 -- the lines of states, of which the first has this number
 abbrev pub state_lines : ℕ → List State → List ℕ
@@ -35,7 +24,7 @@ state_lines n (s ∷ states) = state_line n s ++ state_lines (n + 1) states
 
 -- the line of a goal and the rows by which it is met
 abbrev pub goal_line : ℕ → List ℕ → List ℕ
-goal_line goal rows = codes "meets" ++ (word goal ++ (codes " rows" ++ (counted rows ++ codes "\n")))
+goal_line goal rows = codes "meets" ++ (word goal ++ (codes " rows" ++ (counted word rows ++ codes "\n")))
 
 -- the states of a run in order: each is the last one of as many of the first steps as its number says
 pub record AreStates (system : SystemParts) (d : RawDb) (start : State) (choices : List Choice) (states : List State) : Type 0 where

@@ -2,9 +2,9 @@ ghost use Rattle.std.specs.Prelude.{◌≡◌, ◌++◌, IfOk, OnOk};
 ghost use Rattle.ras_violation.specs.InvalidLines.{database_kind as the_kind, step_kind, database_text, step_text, invalid_text};
 
 use crate::violation_fault::ViolationFault;
-use crate::writing::{put, put_number};
 use ras_database::DbFault;
 use ras_steps::{ReplayFault, StepFault};
+use ras_text::{put, put_word};
 use std::alloc::{AllocError, Global};
 
 fn database_kind(fault: DbFault) -> &'static [u8]
@@ -33,11 +33,11 @@ fn put_step_kind(out: &mut Vec<u8>, fault: StepFault) -> Result<(), AllocError>
     }
 }
 
-fn put_step(out: &mut Vec<u8>, alloc: Global, fault: ReplayFault) -> Result<(), AllocError>
+fn put_step(out: &mut Vec<u8>, fault: ReplayFault) -> Result<(), AllocError>
     ensures { OnOk result (out.new.items ≡ out.old.items ++ step_text fault) }
 {
     put(out, b"INVALID step")?;
-    put_number(out, alloc, fault.at as usize)?;
+    put_word(out, fault.at as u64)?;
     put(out, b" ")?;
     put_step_kind(out, fault.fault)?;
     put(out, b"\n")
@@ -51,14 +51,14 @@ fn put_database(out: &mut Vec<u8>, fault: DbFault) -> Result<(), AllocError>
     put(out, b"\n")
 }
 
-fn put_fault(out: &mut Vec<u8>, alloc: Global, fault: ViolationFault) -> Result<(), AllocError>
+fn put_fault(out: &mut Vec<u8>, fault: ViolationFault) -> Result<(), AllocError>
     ensures { OnOk result (out.new.items ≡ out.old.items ++ invalid_text fault) }
 {
     match fault {
         ViolationFault::Database(fault) => put_database(out, fault),
         ViolationFault::StartNotFitting => put(out, b"INVALID start NOT_FITTING\n"),
         ViolationFault::StartNotInitial => put(out, b"INVALID start NOT_INITIAL\n"),
-        ViolationFault::Step(fault) => put_step(out, alloc, fault),
+        ViolationFault::Step(fault) => put_step(out, fault),
         ViolationFault::EndNotUnsafe => put(out, b"INVALID end NOT_UNSAFE\n"),
     }
 }
@@ -68,6 +68,6 @@ pub fn invalid_line(alloc: Global, fault: &ViolationFault) -> Result<Vec<u8>, Al
     ensures { IfOk result (λ text. text.items ≡ invalid_text fault.now) }
 {
     let mut text = Vec::new(alloc);
-    put_fault(&mut text, alloc, *fault)?;
+    put_fault(&mut text, *fault)?;
     Ok(text)
 }

@@ -18,5 +18,3 @@ pub use law::{
 };
 pub use replayed::replay_text;
 pub use violation_fault::{ViolationError, ViolationFault};
-pub use writing::{put, put_number};
-

@@ -37,13 +37,13 @@ fn put_states(
     ensures states { IfOk result (λ last. AreWritten system.now db.now run.now.start run.now.choices (unwrap_or last run.now.start) out.old.items out.new.items) }
     ensures fault { IfErr result (λ e. OnFault e (IsViolationFault system.now db.now run.now)) }
 {
-    put_state(out, alloc, 0, &run.start)?;
+    put_state(out, 0, &run.start)?;
     let choices = run.choices.as_slice();
     let mut last: Option<State> = None;
     for at in 0..choices.len() {
         let before = reached(&last, &run.start);
         let next = next_state(alloc, db, system, before, &choices[at], at as u32)?;
-        put_state(out, alloc, at + 1, &next)?;
+        put_state(out, at + 1, &next)?;
         last = Some(next);
     }
     Ok(last)
@@ -62,7 +62,7 @@ fn put_goal_met(
     ensures end { IfErr result (λ e. OnEnd e (MeetsNone db.now state.now system.now.goals)) }
 {
     let met = goal_met(alloc, db, system, state)?;
-    put_goal(out, alloc, met.number, met.found.rows())?;
+    put_goal(out, met.number, met.found.rows())?;
     Ok(())
 }
 

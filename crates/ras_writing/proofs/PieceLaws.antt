@@ -1,6 +1,5 @@
 -- The pieces are the lines of the evidence, each with its end.
 use Rattle.std.proofs.Common.{◌≡◌, ℕ, List, [], ◌∷◌, ◌++◌, length, map, flat_map, refl, sym, ap, ◌∙◌, append_assoc, append-nil, codes}
-use Rattle.std.specs.Prelude.{Result, Ok, Err, OnOk}
 use Rattle.std.specs.Fmt.{decimal}
 use Rattle.std.proofs.lemmas.Grind.{flat_map-append}
 use Rattle.ras_logic.specs.declared.problem.Problem.{Problem}
@@ -22,13 +21,14 @@ use Rattle.ras_evidence.specs.declared.value.Entry.{Entry}
 use Rattle.ras_evidence.specs.declared.value.Evidence.{Evidence}
 use Rattle.ras_evidence.specs.declared.value.Evidence.TheVariants.{Safe, Unsafe, Unknown}
 use Rattle.ras_evidence.specs.EvidenceTexts.{entry_lines, evidence_lines}
+use Rattle.ras_text.specs.Pieces.{counted, end_of_line, word as word_of}
 use Rattle.ras_writing.specs.Pieces as piece
 
 abbrev Line : Type 0
 Line = List ℕ
 
 abbrev ended : Line → List ℕ
-ended l = l ++ piece.end_of_line
+ended l = l ++ end_of_line
 
 one_line : (l : Line) → written (l ∷ []) ≡ ended l
 one_line l = append-nil (ended l)
@@ -65,17 +65,17 @@ behind : (word a b : List ℕ) → word ++ (a ++ b) ≡ (word ++ a) ++ b
 behind word a b = sym (append_assoc word a b)
 
 numbers_same : (word : List ℕ) (ns : List ℕ) → piece.numbers word ns ≡ ended (numbers_line word ns)
-numbers_same word ns = behind word (piece.counted piece.number ns) piece.end_of_line ∙ ap (λ (w : List ℕ). ended (word ++ w)) (sym (spaced-counted decimal ns))
+numbers_same word ns = behind word (counted word_of ns) end_of_line ∙ ap (λ (w : List ℕ). ended (word ++ w)) (sym (spaced-counted decimal ns))
 
 two_counts : {X Y : Type 0} (word : List ℕ) (f : X → List ℕ) (g : Y → List ℕ) (xs : List X) (ys : List Y)
-    → word ++ (piece.counted (λ x. 32 ∷ f x) xs ++ (piece.counted (λ y. 32 ∷ g y) ys ++ piece.end_of_line)) ≡ ended (word ++ spaced (lines.counted (map f xs) ++ lines.counted (map g ys)))
+    → word ++ (counted (λ x. 32 ∷ f x) xs ++ (counted (λ y. 32 ∷ g y) ys ++ end_of_line)) ≡ ended (word ++ spaced (lines.counted (map f xs) ++ lines.counted (map g ys)))
 two_counts word f g xs ys =
-    let A = piece.counted (λ x. 32 ∷ f x) xs in
-    let B = piece.counted (λ y. 32 ∷ g y) ys in
+    let A = counted (λ x. 32 ∷ f x) xs in
+    let B = counted (λ y. 32 ∷ g y) ys in
     let joined : spaced (lines.counted (map f xs) ++ lines.counted (map g ys)) ≡ A ++ B =
     flat_map-append (λ (w : List ℕ). 32 ∷ w) (lines.counted (map f xs)) (lines.counted (map g ys)) ∙ ap (λ (w : List ℕ). w ++ spaced (lines.counted (map g ys))) (spaced-counted f xs)
     ∙ ap (λ (w : List ℕ). A ++ w) (spaced-counted g ys) in
-    ap (λ (w : List ℕ). word ++ w) (behind A B piece.end_of_line) ∙ behind word (A ++ B) piece.end_of_line ∙ ap (λ (w : List ℕ). ended (word ++ w)) (sym joined)
+    ap (λ (w : List ℕ). word ++ w) (behind A B end_of_line) ∙ behind word (A ++ B) end_of_line ∙ ap (λ (w : List ℕ). ended (word ++ w)) (sym joined)
 
 cube_same : (p : Problem) → piece.cube p ≡ ended (cube_line p)
 cube_same p = two_counts (codes "cube") relation_word literal_word p.rows p.literals
@@ -83,8 +83,8 @@ cube_same p = two_counts (codes "cube") relation_word literal_word p.rows p.lite
 choice_same : (c : Choice) → piece.choice c ≡ ended (step_line c)
 choice_same c =
     ap (λ (w : List ℕ). codes "step " ++ w) (two_counts (decimal c.transition) decimal decimal c.rows c.values)
-    ∙ ap (λ (w : List ℕ). codes "step " ++ w) (append_assoc (decimal c.transition) (spaced (lines.counted (map decimal c.rows) ++ lines.counted (map decimal c.values))) piece.end_of_line)
-    ∙ ap (λ (w : List ℕ). codes "step " ++ w) (behind (decimal c.transition) (spaced (lines.counted (map decimal c.rows) ++ lines.counted (map decimal c.values))) piece.end_of_line)
+    ∙ ap (λ (w : List ℕ). codes "step " ++ w) (append_assoc (decimal c.transition) (spaced (lines.counted (map decimal c.rows) ++ lines.counted (map decimal c.values))) end_of_line)
+    ∙ ap (λ (w : List ℕ). codes "step " ++ w) (behind (decimal c.transition) (spaced (lines.counted (map decimal c.rows) ++ lines.counted (map decimal c.values))) end_of_line)
 
 node_same : (n : Node) → piece.node n ≡ spaced (node_words n)
 node_same Leaf = refl
@@ -101,7 +101,7 @@ nodes_same (n ∷ ns) =
     ∙ sym (flat_map-append (λ (w : List ℕ). 32 ∷ w) (node_words n) (flat_map node_words ns))
 
 tree_same : (t : Tree) → piece.tree t ≡ ended (tree_line t)
-tree_same t = behind (codes "tree") (flat_map piece.node t.nodes) piece.end_of_line ∙ ap (λ (w : List ℕ). ended (codes "tree" ++ w)) (nodes_same t.nodes)
+tree_same t = behind (codes "tree") (flat_map piece.node t.nodes) end_of_line ∙ ap (λ (w : List ℕ). ended (codes "tree" ++ w)) (nodes_same t.nodes)
 
 -- Databases and runs.
 
@@ -160,10 +160,6 @@ evidence_same (Unknown entries spill) =
     (section_same (codes "budget") entry_lines piece.entry entry_same entries) (entry_same spill))
 
 -- What is written one after the other.
-
-pub on_ok : {T E : Type 0} (r : Result T E) (P Q : Type 0) → (P → Q) → OnOk r P → OnOk r Q
-on_ok (Ok x) P Q f h = f h
-on_ok (Err e) P Q f h = h
 
 pub four : (a b c d e w x y z : List ℕ) → b ≡ a ++ w → c ≡ b ++ x → d ≡ c ++ y → e ≡ d ++ z → e ≡ a ++ (w ++ (x ++ (y ++ z)))
 four a b c d e w x y z one two three last =

@@ -1,6 +1,7 @@
 -- What is written, one piece after the other.
-use Rattle.std.specs.Prelude.{ℕ, List, [], ◌∷◌, ◌++◌, length, flat_map, codes}
+use Rattle.std.specs.Prelude.{ℕ, List, ◌++◌, length, flat_map, codes}
 use Rattle.std.specs.Fmt.{decimal}
+use Rattle.ras_text.specs.Pieces.{word, counted, end_of_line}
 use Rattle.ras_logic.specs.declared.ids.FunId.{FunId}
 use Rattle.ras_logic.specs.declared.ids.RelId.{RelId}
 use Rattle.ras_logic.specs.declared.term.Term.{Term}
@@ -17,29 +18,19 @@ use Rattle.ras_evidence.specs.declared.value.Entry.{Entry}
 use Rattle.ras_evidence.specs.declared.value.Evidence.{Evidence}
 use Rattle.ras_evidence.specs.declared.value.Evidence.TheVariants.{Safe, Unsafe, Unknown}
 
-abbrev pub digits : ℕ → List ℕ
-digits n = decimal n
-
-abbrev pub number : ℕ → List ℕ
-number n = codes " " ++ decimal n
-
-abbrev pub counted : {X : Type 0} → (X → List ℕ) → List X → List ℕ
-counted text xs = codes " " ++ (decimal (length xs) ++ flat_map text xs)
-
-abbrev pub end_of_line : List ℕ
-end_of_line = 10 ∷ []
-
+-- a line with a word and how many there are, and the lines of each
 abbrev pub section : {X : Type 0} → List ℕ → (X → List ℕ) → List X → List ℕ
-section word text xs = word ++ (codes " " ++ (decimal (length xs) ++ (end_of_line ++ flat_map text xs)))
+section head text xs = head ++ (word (length xs) ++ (end_of_line ++ flat_map text xs))
 
+-- a line of a word, a count and as many numbers
 abbrev pub numbers : List ℕ → List ℕ → List ℕ
-numbers word ns = word ++ (counted number ns ++ end_of_line)
+numbers head ns = head ++ (counted word ns ++ end_of_line)
 
 abbrev pub function : FunId → List ℕ
 function f = codes "/" ++ decimal f.n
 
 abbrev pub relation : RelId → List ℕ
-relation r = number r.n
+relation r = word r.n
 
 abbrev pub term : Term → List ℕ
 term t = base_word t.base ++ flat_map function t.path
@@ -52,7 +43,7 @@ cube p = codes "cube" ++ (counted relation p.rows ++ (counted literal p.literals
 
 abbrev pub node : Node → List ℕ
 node Leaf = codes " leaf"
-node (Split formula rows children) = codes " split " ++ (decimal formula ++ (counted number rows ++ (codes " " ++ decimal children)))
+node (Split formula rows children) = codes " split " ++ (decimal formula ++ (counted word rows ++ word children))
 
 abbrev pub tree : Tree → List ℕ
 tree t = codes "tree" ++ (flat_map node t.nodes ++ end_of_line)
@@ -64,7 +55,7 @@ abbrev pub rows : List (List ℕ) → List ℕ
 rows rs = section (codes "rows") (numbers (codes "row")) rs
 
 abbrev pub choice : Choice → List ℕ
-choice c = codes "step " ++ (decimal c.transition ++ (counted number c.rows ++ (counted number c.values ++ end_of_line)))
+choice c = codes "step " ++ (decimal c.transition ++ (counted word c.rows ++ (counted word c.values ++ end_of_line)))
 
 abbrev pub run : Run → List ℕ
 run r = numbers (codes "vars") r.start.vars ++ (section (codes "relations") rows r.start.relations ++ section (codes "steps") choice r.choices)

@@ -3,67 +3,62 @@ ghost use Rattle.ras_lines.specs.Lines.{written};
 ghost use Rattle.ras_evidence.specs.EvidenceTexts.{evidence_lines, IsWritable, IsEvidenceText};
 ghost use Rattle.ras_writing.specs.Pieces as piece;
 
-use crate::put::{Written, put, put_section};
+use crate::put::{Written, put_section};
 use crate::runs::{put_database, put_run};
 use ras_evidence::{Entry, Evidence};
 use ras_logic::{Cube, List, RawDb, Shared, Tree};
 use ras_steps::Run;
+use ras_text::put;
 use std::alloc::{AllocError, Global};
 
 impl Written for Entry {
     ghost text = { piece.entry };
 
-    fn write(&self, out: &mut Vec<u8>, alloc: Global) -> Result<(), AllocError> {
-        self.cube.write(out, alloc)?;
-        put_database(out, alloc, &self.db)?;
-        put_run(out, alloc, &self.run)
+    fn write(&self, out: &mut Vec<u8>) -> Result<(), AllocError> {
+        self.cube.write(out)?;
+        put_database(out, &self.db)?;
+        put_run(out, &self.run)
     }
 }
 
 fn put_safe(
     out: &mut Vec<u8>,
-    alloc: Global,
     formulas: &List<Shared<Cube>>,
     trees: &List<Tree>,
 ) -> Result<(), AllocError>
     ensures { OnOk result (out.new.items ≡ out.old.items ++ piece.safe formulas.now trees.now) }
 {
     put(out, b"evidence 1 safe\n")?;
-    put_section(out, alloc, b"formulas", formulas.as_slice())?;
-    put_section(out, alloc, b"trees", trees.as_slice())?;
+    put_section(out, b"formulas", formulas.as_slice())?;
+    put_section(out, b"trees", trees.as_slice())?;
     put(out, b"end\n")
 }
 
-fn put_unsafe(out: &mut Vec<u8>, alloc: Global, db: &RawDb, run: &Run) -> Result<(), AllocError>
+fn put_unsafe(out: &mut Vec<u8>, db: &RawDb, run: &Run) -> Result<(), AllocError>
     ensures { OnOk result (out.new.items ≡ out.old.items ++ piece.unsafe_run db.now run.now) }
 {
     put(out, b"evidence 1 unsafe\n")?;
-    put_database(out, alloc, db)?;
-    put_run(out, alloc, run)?;
+    put_database(out, db)?;
+    put_run(out, run)?;
     put(out, b"end\n")
 }
 
-fn put_unknown(
-    out: &mut Vec<u8>,
-    alloc: Global,
-    entries: &List<Entry>,
-    spill: &Entry,
-) -> Result<(), AllocError>
+fn put_unknown(out: &mut Vec<u8>, entries: &List<Entry>, spill: &Entry) -> Result<(), AllocError>
     ensures { OnOk result (out.new.items ≡ out.old.items ++ piece.unknown entries.now spill.now) }
 {
     put(out, b"evidence 1 unknown\n")?;
-    put_section(out, alloc, b"budget", entries.as_slice())?;
-    spill.write(out, alloc)?;
+    put_section(out, b"budget", entries.as_slice())?;
+    spill.write(out)?;
     put(out, b"end\n")
 }
 
-fn put_evidence(out: &mut Vec<u8>, alloc: Global, evidence: &Evidence) -> Result<(), AllocError>
+fn put_evidence(out: &mut Vec<u8>, evidence: &Evidence) -> Result<(), AllocError>
     ensures { OnOk result (out.new.items ≡ out.old.items ++ piece.evidence evidence.now) }
 {
     match evidence {
-        Evidence::Safe { formulas, trees } => put_safe(out, alloc, formulas, trees),
-        Evidence::Unsafe { db, run } => put_unsafe(out, alloc, db, run),
-        Evidence::Unknown { entries, spill } => put_unknown(out, alloc, entries, spill),
+        Evidence::Safe { formulas, trees } => put_safe(out, formulas, trees),
+        Evidence::Unsafe { db, run } => put_unsafe(out, db, run),
+        Evidence::Unknown { entries, spill } => put_unknown(out, entries, spill),
     }
 }
 
@@ -75,6 +70,6 @@ pub fn write_evidence(alloc: Global, evidence: &Evidence) -> Result<Vec<u8>, All
     ensures text { IfOk result (λ bytes. IsWritable evidence.now → IsEvidenceText bytes.items evidence.now) }
 {
     let mut out = Vec::new(alloc);
-    put_evidence(&mut out, alloc, evidence)?;
+    put_evidence(&mut out, evidence)?;
     Ok(out)
 }

@@ -1,14 +1,15 @@
 ghost use Rattle.std.specs.Prelude.{List};
 ghost use Rattle.ras_writing.specs.Pieces as piece;
 
-use crate::put::{Written, put, put_all, put_counted, put_number};
+use crate::put::{Written, put_all, put_counted};
 use ras_logic::{Node, Tree};
-use std::alloc::{AllocError, Global};
+use ras_text::{put, put_number, put_word};
+use std::alloc::AllocError;
 
 impl Written for Node {
     ghost text = { piece.node };
 
-    fn write(&self, out: &mut Vec<u8>, alloc: Global) -> Result<(), AllocError> {
+    fn write(&self, out: &mut Vec<u8>) -> Result<(), AllocError> {
         match self {
             Node::Leaf => put(out, b" leaf"),
             Node::Split {
@@ -17,10 +18,9 @@ impl Written for Node {
                 children,
             } => {
                 put(out, b" split ")?;
-                put_number(out, alloc, u64::from(*formula))?;
-                put_counted(out, alloc, rows.as_slice())?;
-                put(out, b" ")?;
-                put_number(out, alloc, u64::from(*children))
+                put_number(out, u64::from(*formula))?;
+                put_counted(out, rows.as_slice())?;
+                put_word(out, u64::from(*children))
             }
         }
     }
@@ -29,9 +29,9 @@ impl Written for Node {
 impl Written for Tree {
     ghost text = { piece.tree };
 
-    fn write(&self, out: &mut Vec<u8>, alloc: Global) -> Result<(), AllocError> {
+    fn write(&self, out: &mut Vec<u8>) -> Result<(), AllocError> {
         put(out, b"tree")?;
-        put_all(out, alloc, self.nodes.as_slice())?;
+        put_all(out, self.nodes.as_slice())?;
         put(out, b"\n")
     }
 }

@@ -1,7 +1,7 @@
 use Rattle.std.proofs.Common.{◌≡◌, ℕ, List, ◌++◌, ◌∙◌, ap}
 use Rattle.std.specs.Prelude.{codes}
 use Rattle.ras_violation.specs.InvalidLines.{database_kind, database_text}
-use Rattle.ras_violation.proofs.Lines.{behind, on_ok}
+use Rattle.ras_text.proofs.Behind.{behind, on_ok}
 use Rattle.ras_violation.proofs.invalid.put_database.Goals as goal
 
 pub returns : goal.returns

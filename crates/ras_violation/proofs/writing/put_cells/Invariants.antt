@@ -1,5 +1,5 @@
 use Rattle.std.proofs.Common.{◌≡◌, ◌++◌, take, flat_map}
-use Rattle.ras_violation.specs.ReplayTexts.{words}
+use Rattle.ras_text.specs.Pieces.{words}
 use Rattle.ras_violation.proofs.writing.put_cells.Given as goal
 
 abbrev pub invariant-loop-cells : goal.invariant-loop-cells
