@@ -20,7 +20,10 @@ pub trait Spelled: Drop {
         ensures { Reads first words.old.rest.now words.new.rest.now result };
 }
 
-/// Reads as many values as are announced, each behind a blank. What is only announced takes no room.
+/// As many values as this have memory from the start: most rows, literals and paths are few.
+const FEW: u32 = 4;
+
+/// Reads as many values as are announced, each behind a blank. What is only announced takes no room beyond that of a few.
 #[tactic(auto, using(crate::proofs::Loops::times_laws))]
 fn several<T: Spelled, const ROOM: usize>(
     words: &mut Words<'_>,
@@ -29,7 +32,7 @@ fn several<T: Spelled, const ROOM: usize>(
 ) -> Result<Seq<T, ROOM>, Stop>
     ensures { Reads (times (behind_blank T.first) count) words.old.rest.now words.new.rest.now result }
 {
-    let mut items = Seq::new(alloc);
+    let mut items = Seq::with_capacity(alloc, count.min(FEW) as usize)?;
     for _ in 0..count {
         words.fixed(b" ")?;
         let item = T::read(words, alloc)?;

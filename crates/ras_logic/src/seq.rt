@@ -1,4 +1,4 @@
-ghost use Rattle.std.specs.Prelude.{◌≡◌, ◌≤◌, [], ◌∷◌, ◌++◌, length, OnOk, OnErr};
+ghost use Rattle.std.specs.Prelude.{◌≡◌, ◌≤◌, [], ◌∷◌, ◌++◌, length, IfOk, OnOk, OnErr};
 
 use crate::ids::RelId;
 use crate::plain::Plain;
@@ -38,6 +38,14 @@ impl<T, const ROOM: usize> Seq<T, ROOM> {
         Seq {
             items: Vec::new(alloc),
         }
+    }
+
+    /// No elements, and memory for so many already.
+    pub fn with_capacity(alloc: Global, count: usize) -> Result<Seq<T, ROOM>, AllocError>
+        ensures { IfOk result (λ seq. seq ≡ []) }
+    {
+        let items = Vec::with_capacity(alloc, count)?;
+        Ok(Seq { items })
     }
 
     /// The elements of a `Vec`, which takes no memory.

@@ -33,9 +33,9 @@ pub use preimages::{
     a_preimage_by_two_row_parameters, preimages_by_a_row_parameter,
 };
 pub use runs::{
-    a_step_of_all_kinds, choices_that_are_no_step, formulas_that_are_no_invariant,
-    runs_that_are_no_violation, safe_systems, the_states_of_a_run, the_steps_of_a_run,
-    unsafe_systems,
+    a_step_of_all_kinds, choices_that_are_no_step, formulas_that_are_an_invariant,
+    formulas_that_are_no_invariant, runs_that_are_no_violation, safe_systems, the_states_of_a_run,
+    the_steps_of_a_run, unsafe_systems,
 };
 pub use schemas::{
     counts_at_their_limits, cycles_of_sorts, good_and_bad_schemas, good_and_bad_shapes,

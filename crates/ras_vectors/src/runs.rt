@@ -6,7 +6,7 @@ ghost use Rattle.ras_system.specs.Invariants.{IsInvariant};
 ghost use Rattle.ras_vectors.specs.Words.{choice, state, database};
 ghost use Rattle.ras_vectors.specs.Hiring.{hiring, careless, one_job, one_row, wrong_owner};
 ghost use Rattle.ras_vectors.specs.Desk.{desk, take_seat, clear, two_elements, three_seats, off_and_on};
-ghost use Rattle.ras_vectors.specs.Small.{still, unset_is_unsafe, one_element, two, three_elements, is_set, is_b, is_c};
+ghost use Rattle.ras_vectors.specs.Small.{still, unset_is_unsafe, one_element, two, three_elements, is_set, is_b, is_c, is_set};
 ghost use Rattle.ras_vectors.specs.Depot.{depot, stock, move, shift, before_move, after_move};
 
 use ras_system::{a_good_evidence_suffices, no_fault_is_first_exactly_in_a_system};
@@ -74,6 +74,11 @@ pub fn safe_systems()
     no_fault_is_first_exactly_in_a_system();
     a_good_evidence_suffices();
 }
+
+/// Where the variable is never set, no step leads to where it is.
+pub fn formulas_that_are_an_invariant()
+    ensures still { IsInvariant still (is_set ∷ []) }
+{}
 
 /// A formula that the initial state meets, a goal that is left out, and a step into a formula from outside.
 pub fn formulas_that_are_no_invariant()
