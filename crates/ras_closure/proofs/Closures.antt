@@ -15,20 +15,10 @@ use Rattle.ras_closure.specs.Classes.{class, AreClosed}
 use Rattle.ras_closure.specs.Partitions.{ArePartial, AreTogether, IsRest}
 use Rattle.ras_closure.specs.Verdicts.{AreClashing, AreUnbroken, IsVerdict}
 use Rattle.ras_closure.specs.Closures.{ClosureParts, IsClosure, IsNo, AreOfOneSort, IsFactOf, IsLiteralOf, AddsFact}
+use Rattle.ras_logic.proofs.MoreFacts.{together-more}
 use Rattle.ras_closure.proofs.NoFacts.{no_facts-no_clash}
 use Rattle.ras_closure.proofs.Merges.{term_at, saturated-closed, rigid-within, clashing-conflict, conflict-clash}
 use Rattle.ras_closure.proofs.Cases.{some_same, none_some, true_false}
-
--- more facts put no fewer terms together
-pub together-more : (schema : SchemaParts) (literals : List Literal) (F G : Literal → Type 0) → ((l : Literal) → F l → G l) → {s t : Term}
-    → Together schema literals F s t → Together schema literals G s t
-together-more schema literals F G more (reflexive t known) = reflexive t known
-together-more schema literals F G more (symmetric s t r) = symmetric s t (together-more schema literals F G more r)
-together-more schema literals F G more (transitive r s t p q) = transitive r s t (together-more schema literals F G more p) (together-more schema literals F G more q)
-together-more schema literals F G more (stated s t fact) = stated s t (more (Equal s t true) fact)
-together-more schema literals F G more (same_images s t f r one other) = same_images s t f (together-more schema literals F G more r) one other
-together-more schema literals F G more (image_of_undef t f d known r one) = image_of_undef t f d known (together-more schema literals F G more r) one
-together-more schema literals F G more (only_undef t f d known total r) = only_undef t f d known total (together-more schema literals F G more r)
 
 module _ (old : ClosureParts) (table : IsTable old.table) (closure : IsClosure old) (new : MarkParts) (same : Bool) (left right : TermNo)
     (lt_left : IsNo old left) (lt_right : IsNo old right) (one_sort : AreOfOneSort old left right) (adds : AddsMark old.marks new same left.n right.n) where
@@ -69,7 +59,7 @@ module _ (old : ClosureParts) (table : IsTable old.table) (closure : IsClosure o
     low = closure.partial.low;
     own = closure.partial.own;
     sound = λ k l s u at_s at_u e.
-        together-more old.table.shape.schema old.table.problem.literals (IsFactOf old) (IsAsserted old.table.terms new) asserted-more (closure.partial.sound k l s u at_s at_u e);
+        together-more old.table.shape.schema old.table.problem.literals old.table.problem.literals (λ _ known. known) (IsFactOf old) (IsAsserted old.table.terms new) asserted-more (closure.partial.sound k l s u at_s at_u e);
   }
 
   pub marks-together : same ≡ true → AreTogether old.table new left.n right.n

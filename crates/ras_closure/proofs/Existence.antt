@@ -30,7 +30,7 @@ use Rattle.ras_closure.proofs.Assembly.{model-of}
 use Rattle.ras_closure.proofs.Cases.{same_or, some_same}
 
 -- a list of what there is for each number
-choose : {X : Type 0} (P : ℕ → X → Type 0) (d : X) (n : ℕ) → ((k : ℕ) → k < n → (y : X) × P k y) → (ys : List X) × (length ys ≡ n) × ((k : ℕ) → k < n → P k (get_or ys k d))
+pub choose : {X : Type 0} (P : ℕ → X → Type 0) (d : X) (n : ℕ) → ((k : ℕ) → k < n → (y : X) × P k y) → (ys : List X) × (length ys ≡ n) × ((k : ℕ) → k < n → P k (get_or ys k d))
 choose P d zero f = ([], refl, λ k lt. absurd (omega arith))
 choose {X = X} P d (suc n) f =
     let first = f 0 (omega arith) in
@@ -87,7 +87,7 @@ element-of terms number b =
     (λ (none : (k : ℕ) → k < length terms → IsAt terms k (base_term b) → ⊥). (0, inr (λ i at. none i (slice_get_within terms i (base_term b) at) at, refl)))
     (search_to (λ k. IsAt terms k (base_term b)) (at_or terms b) (length terms))
 
-elements-of : (terms : List Term) (number : ℕ → ℕ) (base : ℕ → Base) (count : ℕ) → (xs : List ℕ) × AreElementsOf terms number base count xs
+pub elements-of : (terms : List Term) (number : ℕ → ℕ) (base : ℕ → Base) (count : ℕ) → (xs : List ℕ) × AreElementsOf terms number base count xs
 elements-of terms number base count =
     let c = choose (λ k x. IsElementOf terms number (base k) x) 0 count (λ k lt. element-of terms number (base k)) in
     (c.0, record { as_many = c.1; each = c.2 })
@@ -118,7 +118,7 @@ module _ (t : TableParts) (table : IsTable t) (number : ℕ → ℕ) (size : Sor
           function_same : (m : ℕ) → Some (Image of g) ≡ Some (Image m f) → g ≡ f
           function_same m h = cc
 
-  image-of : (f : FunId) (decl : FunDecl) (x : ℕ) → (y : ℕ) × IsImage t.terms number size f decl x y
+  pub image-of : (f : FunId) (decl : FunDecl) (x : ℕ) → (y : ℕ) × IsImage t.terms number size f decl x y
   image-of f decl x =
       ⊎_elim (λ (h : (k : ℕ) × (k < length t.terms) × IsImageAt t number f x k). (number h.0, image-found t table number f x size decl h.0 (number h.0) h.2 refl))
       (λ (none : (k : ℕ) → k < length t.terms → IsImageAt t number f x k → ⊥). (cond decl.total (size decl.target) 0, inr (image-none t table number f x none, refl)))

@@ -15,7 +15,7 @@ use Rattle.ras_closure.specs.Images.{HasNoImage, IsImageAt, IsFoundImage, AreIma
 use Rattle.ras_closure.specs.Models.{IsImage, IsTableOf}
 use Rattle.ras_closure.specs.Elements.{number, count, AreSorted, AreNumbered, HaveElements}
 use Rattle.ras_closure.specs.Spares.{IsLacking, AreLacking, NeedsSpare, IsNeeded, AreSpared, AreSpares, sized}
-use Rattle.ras_closure.proofs.Sorting.{image-source}
+use Rattle.ras_logic.proofs.SameSorts.{image-source}
 use Rattle.ras_closure.proofs.Merges.{term_at, table-sorted}
 use Rattle.ras_closure.proofs.FoundImages.{image-found, image-none}
 use Rattle.ras_closure.proofs.Models.{AreNumbers}
@@ -98,7 +98,7 @@ module _ (t : TableParts) (table : IsTable t) (numbers counts : List ℕ) (eleme
   pub beyond-none : slice_get t.shape.schema.functions f.n ≡ Some decl → (x : ℕ) → count counts decl.source < x → HasNoImage t.terms (number numbers) f x
   beyond-none known x beyond i k s at_i at_k e =
       let h = table-sorted t table k (image_term s f) at_k in
-      let source = image-source t.shape t.problem.rows t.problem.params table.shape.schema t.problem.literals table.fits.literals (λ _. ⊥) (λ l no. absurd no) s f decl h.sort known h.is_sort in
+      let source = image-source t.shape t.problem.rows t.problem.params s f decl h.sort known h.is_sort in
       let le = elements.within i s decl.source at_i source.0 in
       omega (arith, le, e, beyond)
 

@@ -12,8 +12,8 @@ use Rattle.ras_closure.specs.declared.clash.Clash.{Clash}
 use Rattle.ras_closure.specs.Numbered.{IsAt, IsTable}
 use Rattle.ras_closure.specs.Classes.{class}
 use Rattle.ras_closure.specs.Closures.{ClosureParts, IsClosure, IsFactOf, AreTogetherIn, FactsClashIn, HasNoModel, NamesConflict}
-use Rattle.ras_closure.proofs.Sorting.{from_known}
-use Rattle.ras_closure.proofs.Soundness.{clash-none}
+use Rattle.ras_logic.proofs.Elements.{from_known}
+use Rattle.ras_logic.proofs.Soundness.{clash-none}
 use Rattle.ras_closure.proofs.Completeness.{together-class}
 use Rattle.ras_closure.proofs.Merges.{term_at, clashing-conflict, conflict-clash}
 use Rattle.ras_closure.proofs.Models.{AreConsistent}

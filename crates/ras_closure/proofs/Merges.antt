@@ -24,10 +24,11 @@ use Rattle.ras_closure.specs.Rules.{by_images, by_undef, by_total}
 use Rattle.ras_closure.specs.Closures.{asserted_apart, constants, constant_and_undef, undef_and_constant}
 use Rattle.ras_closure.specs.Partitions.{AreBelow, ArePartial, AreTogether}
 use Rattle.ras_closure.specs.Verdicts.{AreClashing, AreUnbroken}
-use Rattle.ras_closure.specs.Merging.{MayMerge, AreBreaking}
+use Rattle.ras_closure.specs.Merging.{MayMerge, AreConflicting}
 use Rattle.ras_closure.specs.declared.clash.Clash as Named
 use Rattle.ras_closure.specs.Closures.{Conflict}
-use Rattle.ras_closure.proofs.Sorting.{from_known, HasSort, sort-within, term-sorted, together-sorted}
+use Rattle.ras_logic.proofs.Elements.{from_known}
+use Rattle.ras_logic.proofs.SameSorts.{HasSort, sort-within, term-sorted, together-sorted}
 use Rattle.ras_closure.proofs.Cases.{below_or, none_some}
 
 pub coarsens-through : (old mid new : List ℕ) → length mid ≡ length old → Coarsens old mid → Coarsens mid new → Coarsens old new
@@ -251,14 +252,14 @@ module _ (t : TableParts) (table : IsTable t) (marks : MarkParts) (classes : Lis
       apart = λ i j lt_i lt_j marked e.
           ⊎_elim (λ (h : class classes i ≡ class classes j). unbroken.apart i j lt_i lt_j marked h)
           (λ (h : ((class classes i ≡ to) × (class classes j ≡ from)) ⊎ ((class classes i ≡ from) × (class classes j ≡ to))).
-          ⊎_elim (λ (g : (class classes i ≡ to) × (class classes j ≡ from)). (may.unparted i lt_i g.0 j lt_j g.1).forth marked)
-          (λ (g : (class classes i ≡ from) × (class classes j ≡ to)). (may.unparted j lt_j g.1 i lt_i g.0).back marked) h)
+          ⊎_elim (λ (g : (class classes i ≡ to) × (class classes j ≡ from)). (may.no_disequality i lt_i g.0 j lt_j g.1).forth marked)
+          (λ (g : (class classes i ≡ from) × (class classes j ≡ to)). (may.no_disequality j lt_j g.1 i lt_i g.0).back marked) h)
           (old_classes i j (rw (← width) lt_i) (rw (← width) lt_j) e);
     }
 
     -- what speaks against one class is a clash
-    pub breaking-clash : marks.width ≡ length t.terms → (q : Named.Clash) → AreBreaking t marks classes to from q → AreClashing t marks q.left.n q.right.n
-    breaking-clash width q (inl h) =
+    pub find_conflict-clash : marks.width ≡ length t.terms → (q : Named.Clash) → AreConflicting t marks classes to from q → AreClashing t marks q.left.n q.right.n
+    find_conflict-clash width q (inl h) =
         let lt_to : to < length t.terms = rigid-within t table to (omega (arith, less, h.0)) in
         let lt_from : from < length t.terms = rigid-within t table from h.0 in
         let own_to : class classes to ≡ to = rw class_a at (partial.own a lt_a) in
@@ -269,7 +270,7 @@ module _ (t : TableParts) (table : IsTable t) (marks : MarkParts) (classes : Lis
           together = class-together a b q.left.n q.right.n lt_a lt_b together (rw h.1 (own_to ∙ sym class_a)) (rw h.2 (own_from ∙ sym class_b));
           reason = inr (omega (arith, less, h.0, h.1), omega (arith, h.0, h.2), (λ (e : q.left.n ≡ q.right.n). omega (arith, less, h.1, h.2, e)));
         }
-    breaking-clash width q (inr h) = record {
+    find_conflict-clash width q (inr h) = record {
       left = rw (← width) h.left;
       right = rw (← width) h.right;
       together = ⊎_elim (λ (g : (class classes q.left.n ≡ to) × (class classes q.right.n ≡ from)). class-together a b q.left.n q.right.n lt_a lt_b together (g.0 ∙ sym class_a) (g.1 ∙ sym class_b))
@@ -297,7 +298,7 @@ module _ (t : TableParts) (table : IsTable t) (marks : MarkParts) (classes : Lis
     pub merged : class new a ≡ class new b
     pub fewer : sum new < sum classes
     pub unbroken : MayMerge t marks classes to from → AreUnbroken t marks classes → AreUnbroken t marks new
-    pub clash : (q : Named.Clash) → AreBreaking t marks classes to from q → AreClashing t marks q.left.n q.right.n
+    pub clash : (q : Named.Clash) → AreConflicting t marks classes to from q → AreClashing t marks q.left.n q.right.n
 
   -- two terms' classes become one, whichever has the smaller number
   pub merging : marks.width ≡ length t.terms → (a b to from : ℕ) → a < length t.terms → b < length t.terms → AreTogether t marks a b → class classes a ≢ class classes b
@@ -314,7 +315,7 @@ module _ (t : TableParts) (table : IsTable t) (marks : MarkParts) (classes : Lis
         merged = merged-one a b to from lt_a lt_b together h.0 h.1 h.2;
         fewer = merged-fewer a b to from lt_a lt_b together h.0 h.1 h.2;
         unbroken = merged-unbroken a b to from lt_a lt_b together h.0 h.1 h.2 width;
-        clash = breaking-clash a b to from lt_a lt_b together h.0 h.1 h.2 width;
+        clash = find_conflict-clash a b to from lt_a lt_b together h.0 h.1 h.2 width;
       }
       go (inr h) =
           let other = turned a b together in record {
@@ -323,10 +324,10 @@ module _ (t : TableParts) (table : IsTable t) (marks : MarkParts) (classes : Lis
             merged = sym (merged-one b a to from lt_b lt_a other h.0 h.1 h.2);
             fewer = merged-fewer b a to from lt_b lt_a other h.0 h.1 h.2;
             unbroken = merged-unbroken b a to from lt_b lt_a other h.0 h.1 h.2 width;
-            clash = breaking-clash b a to from lt_b lt_a other h.0 h.1 h.2 width;
+            clash = find_conflict-clash b a to from lt_b lt_a other h.0 h.1 h.2 width;
           }
 
-  pub merged-answer : (a b to from : ℕ) (new : List ℕ) → IsMerged new a b to from → (o : Option Named.Clash) → MatchOption o (MayMerge t marks classes to from) (AreBreaking t marks classes to from)
+  pub merged-answer : (a b to from : ℕ) (new : List ℕ) → IsMerged new a b to from → (o : Option Named.Clash) → MatchOption o (MayMerge t marks classes to from) (AreConflicting t marks classes to from)
       → MatchOption o (AreUnbroken t marks classes → AreUnbroken t marks new) (λ q. AreClashing t marks q.left.n q.right.n)
   merged-answer a b to from new m None h = m.unbroken h
   merged-answer a b to from new m (Some q) h = m.clash q h

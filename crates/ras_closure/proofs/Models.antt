@@ -30,7 +30,8 @@ use Rattle.ras_closure.specs.Models.{IsImage, IsTableOf, IsModelDb}
 use Rattle.ras_closure.specs.Values.{IsElementOf, AreElementsOf, AreModelValues}
 use Rattle.ras_closure.specs.Closures.{EachHolds}
 use Rattle.ras_closure.proofs.Prefixes.{prefix-term}
-use Rattle.ras_closure.proofs.Sorting.{from_known, HasSort, term-sorted, sort_of-image}
+use Rattle.ras_logic.proofs.Elements.{from_known}
+use Rattle.ras_logic.proofs.SameSorts.{HasSort, term-sorted, sort_of-image}
 
 -- undef and the constants have classes of their own, and what is apart by a fact is in two classes
 pub record AreConsistent (schema : SchemaParts) (IsFact : Literal → Type 0) (terms : List Term) (classes : List ℕ) : Type 0 where

@@ -13,7 +13,7 @@ use Rattle.ras_logic.specs.Terms.{sort_of, undef_term}
 use Rattle.ras_logic.proofs.TermSorts.{undef-sort}
 use Rattle.ras_closure.specs.Classes.{class, AreSound}
 use Rattle.ras_closure.specs.Numbered.{IsAt, AreTerms}
-use Rattle.ras_closure.proofs.Sorting.{together-sorted}
+use Rattle.ras_logic.proofs.SameSorts.{together-sorted}
 use Rattle.ras_closure.proofs.Models.{AreConsistent, AreNumbers}
 use Rattle.ras_closure.proofs.Cases.{below_or}
 

@@ -20,10 +20,11 @@ use Rattle.ras_logic.proofs.TermSorts.{and_then_through, sort_after-step}
 use Rattle.ras_closure.specs.declared.link.Link.{Link}
 use Rattle.ras_logic.specs.Clashes.{sides, IsPrefixOf, IsTerm, of_literals, a_constant, an_undef}
 use Rattle.ras_closure.specs.Numbered.{IsAt, AreTerms}
-use Rattle.ras_closure.specs.Building.{fixed_term, IsPart, Grows, prefix_at, HasPrefixes, HasSides, HasFunctions, SidesKnown, AreFixed, HaveSides, left_of, right_of}
+use Rattle.ras_closure.specs.Building.{fixed_term, IsPart, Grows, prefix_at, HasPrefixes, HasSides, HasFunctions, SidesKnown, AreFixed, HaveSides}
+use Rattle.ras_logic.specs.Literals.{left_of, right_of}
 use Rattle.ras_closure.proofs.Prefixes.{same_term}
 use Rattle.ras_closure.proofs.Pushing.{prefixes-grow, grows-push, pushed-at}
-use Rattle.ras_closure.proofs.Sorting.{from_known}
+use Rattle.ras_logic.proofs.Elements.{from_known}
 use Rattle.ras_closure.proofs.Cases.{some_same}
 
 contains-second : {X : Type 0} (a b x : X) (xs : List X) → Contains xs x → Contains (a ∷ b ∷ xs) x

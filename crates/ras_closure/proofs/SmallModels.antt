@@ -15,7 +15,8 @@ use Rattle.ras_closure.specs.SmallModels.{IsModelOf, LacksImage, IsSmallFor}
 use Rattle.ras_closure.specs.Models.{IsModelBy}
 use Rattle.ras_closure.specs.Elements.{AreSorted, number, count}
 use Rattle.ras_closure.specs.Spares.{IsLacking, IsNeeded, sized}
-use Rattle.ras_closure.proofs.Sorting.{from_known, together-sorted}
+use Rattle.ras_logic.proofs.Elements.{from_known}
+use Rattle.ras_logic.proofs.SameSorts.{together-sorted}
 use Rattle.ras_closure.proofs.Gaps.{small-numbers, numbered-elements, beyond-none}
 use Rattle.ras_closure.proofs.Assembly.{model-of, term-number}
 use Rattle.ras_closure.proofs.Models.{AreNumbers}

@@ -6,15 +6,15 @@ use Rattle.ras_closure.specs.declared.clash.Clash.{Clash}
 use Rattle.ras_closure.specs.Numbered.{TableParts, rigid_count}
 use Rattle.ras_closure.specs.Assertions.{MarkParts}
 use Rattle.ras_closure.specs.Classes.{class}
-use Rattle.ras_closure.specs.Merging.{AreParted, AreUnparted, MayMerge, AreBreaking}
+use Rattle.ras_closure.specs.Merging.{AreDisequal, HaveNoDisequality, MayMerge, AreConflicting}
 use Rattle.ras_closure.specs.Verdicts.{AreUnbroken, AreClashing, IsVerdict}
 use Rattle.ras_closure.proofs.Cases.{some_same, none_some}
 
-turned : (marks : MarkParts) (classes : List ℕ) (a b : ℕ) → AreUnparted marks classes a b marks.width → AreUnparted marks classes b a marks.width
+turned : (marks : MarkParts) (classes : List ℕ) (a b : ℕ) → HaveNoDisequality marks classes a b marks.width → HaveNoDisequality marks classes b a marks.width
 turned marks classes a b h i lt_i e_i j lt_j e_j = let u = h j lt_j e_j i lt_i e_i in record { forth = u.back; back = u.forth }
 
-parted-turned : (marks : MarkParts) (classes : List ℕ) (a b i j : ℕ) → AreParted marks classes a b i j → AreParted marks classes b a i j
-parted-turned marks classes a b i j h = record {
+disequal-turned : (marks : MarkParts) (classes : List ℕ) (a b i j : ℕ) → AreDisequal marks classes a b i j → AreDisequal marks classes b a i j
+disequal-turned marks classes a b i j h = record {
   marked = h.marked;
   left = h.left;
   right = h.right;
@@ -22,16 +22,16 @@ parted-turned marks classes a b i j h = record {
 }
 
 pub looked_forth : (t : TableParts) (marks : MarkParts) (classes : List ℕ) (to from : ℕ) → rigid_count t ≤ from → (o : Option Clash)
-    → MatchOption o (AreUnparted marks classes to from marks.width) (λ q. AreParted marks classes to from q.left.n q.right.n)
-    → MatchOption o (MayMerge t marks classes to from) (AreBreaking t marks classes to from)
-looked_forth t marks classes to from above None h = record { above = above; unparted = h }
+    → MatchOption o (HaveNoDisequality marks classes to from marks.width) (λ q. AreDisequal marks classes to from q.left.n q.right.n)
+    → MatchOption o (MayMerge t marks classes to from) (AreConflicting t marks classes to from)
+looked_forth t marks classes to from above None h = record { above = above; no_disequality = h }
 looked_forth t marks classes to from above (Some q) h = inr h
 
 pub looked_back : (t : TableParts) (marks : MarkParts) (classes : List ℕ) (to from : ℕ) → rigid_count t ≤ from → (o : Option Clash)
-    → MatchOption o (AreUnparted marks classes from to marks.width) (λ q. AreParted marks classes from to q.left.n q.right.n)
-    → MatchOption o (MayMerge t marks classes to from) (AreBreaking t marks classes to from)
-looked_back t marks classes to from above None h = record { above = above; unparted = turned marks classes from to h }
-looked_back t marks classes to from above (Some q) h = inr (parted-turned marks classes from to q.left.n q.right.n h)
+    → MatchOption o (HaveNoDisequality marks classes from to marks.width) (λ q. AreDisequal marks classes from to q.left.n q.right.n)
+    → MatchOption o (MayMerge t marks classes to from) (AreConflicting t marks classes to from)
+looked_back t marks classes to from above None h = record { above = above; no_disequality = turned marks classes from to h }
+looked_back t marks classes to from above (Some q) h = inr (disequal-turned marks classes from to q.left.n q.right.n h)
 
 pub verdict-or : (t : TableParts) (marks : MarkParts) (old new : List ℕ) (before found : Option Clash) → IsVerdict t marks old before
     → MatchOption found (AreUnbroken t marks old → AreUnbroken t marks new) (λ q. AreClashing t marks q.left.n q.right.n)

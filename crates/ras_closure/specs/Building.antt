@@ -57,10 +57,3 @@ AreFixed sorts terms n = (i : ℕ) → i < n → IsAt terms i (fixed_term sorts 
 -- the sides of the first literals are in the list
 abbrev pub HaveSides : List Term → List Literal → ℕ → Type 0
 HaveSides terms literals n = (k : ℕ) (l : Literal) → k < n → slice_get literals k ≡ Some l → HasSides terms l
-
--- the left side of a literal, and the right side
-abbrev pub left_of : Literal → Term
-left_of (Equal a b s) = a
-
-abbrev pub right_of : Literal → Term
-right_of (Equal a b s) = b

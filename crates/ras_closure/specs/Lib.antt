@@ -8,6 +8,7 @@ pub mod Verdicts
 pub mod Merging
 pub mod Building
 pub mod Closures
+pub mod Closings
 pub mod SmallModels
 pub mod Elements
 pub mod Images

@@ -23,6 +23,17 @@ pub record ArePartial (t : TableParts) (marks : MarkParts) (classes : List ℕ) 
 abbrev pub AreTogether : TableParts → MarkParts → ℕ → ℕ → Type 0
 AreTogether t marks i j = (s u : Term) → IsAt t.terms i s → IsAt t.terms j u → Together t.shape.schema t.problem.literals (IsAsserted t.terms marks) s u
 
+-- classes on the way, and marks for each pair of the table's terms
+pub record AreClassesOf (t : TableParts) (marks : MarkParts) (classes : List ℕ) : Type 0 where
+  pub width : marks.width ≡ length t.terms
+  pub partial : ArePartial t marks classes
+
+-- two terms of the table that must be the same
+pub record MustBeSame (t : TableParts) (marks : MarkParts) (i j : ℕ) : Type 0 where
+  pub left : i < length t.terms
+  pub right : j < length t.terms
+  pub together : AreTogether t marks i j
+
 -- the end of a saturation: no rule asks for more, and what was in one class still is
 pub record IsRest (t : TableParts) (marks : MarkParts) (old new : List ℕ) : Type 0 where
   pub partial : ArePartial t marks new

@@ -14,7 +14,7 @@ pub data Forced (t : TableParts) (classes : List ℕ) : ℕ → ℕ → Type 0 w
       → class classes i ≡ class classes d.target.n → Forced t classes of d.source.n
 
 -- two terms of different classes that a rule puts together
-pub record IsForcedPair (t : TableParts) (classes : List ℕ) (i j : ℕ) : Type 0 where
+pub record IsPendingPair (t : TableParts) (classes : List ℕ) (i j : ℕ) : Type 0 where
   pub forced : Forced t classes i j
   pub differ : class classes i ≢ class classes j
   pub left : i < length t.terms

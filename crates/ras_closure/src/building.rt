@@ -1,7 +1,7 @@
 ghost use Rattle.std.specs.Prelude.{◌≡◌, ℕ, ◌+◌, ◌<◌, ◌≤◌, length, take, slice_get, Some, IfOk, OnOk, List, MatchOption, All, ◌++◌, ◌∷◌, []};
 ghost use Rattle.ras_logic.specs.Clashes.{IsTerm};
 ghost use Rattle.ras_closure.specs.Numbered.{IsAt};
-ghost use Rattle.ras_closure.specs.Building.{IsPart, Grows, LinkFits, prefix_at, HasPrefixes, HasSides, HaveSides, HasFunctions, SidesKnown, AreFixed, fixed_term, left_of, right_of};
+ghost use Rattle.ras_closure.specs.Building.{IsPart, Grows, LinkFits, prefix_at, HasPrefixes, HasSides, HaveSides, HasFunctions, SidesKnown, AreFixed, fixed_term};
 ghost use Rattle.ras_logic.specs.Formulas.{LiteralFits};
 
 use crate::link::Link;
@@ -115,24 +115,6 @@ fn place_term(
     Ok(())
 }
 
-/// The left side of a literal.
-fn left(literal: &Literal) -> &Term
-    ensures { result.now ≡ left_of literal.now }
-{
-    match literal {
-        Literal::Equal { left, .. } => left,
-    }
-}
-
-/// The right side of a literal.
-fn right(literal: &Literal) -> &Term
-    ensures { result.now ≡ right_of literal.now }
-{
-    match literal {
-        Literal::Equal { right, .. } => right,
-    }
-}
-
 /// Puts both sides of a literal, with their prefixes, into the list.
 fn place_literal(
     alloc: Global,
@@ -148,8 +130,8 @@ fn place_literal(
     ensures grows { OnOk result (Grows terms.old terms.new) }
     ensures sides { OnOk result (HasSides terms.new literal.now) }
 {
-    place_term(alloc, schema, problem, terms, links, left(literal))?;
-    place_term(alloc, schema, problem, terms, links, right(literal))?;
+    place_term(alloc, schema, problem, terms, links, literal.left())?;
+    place_term(alloc, schema, problem, terms, links, literal.right())?;
     Ok(())
 }
 

@@ -110,6 +110,13 @@ impl Closure {
         self.table.known();
     }
 
+    /// The terms, by number.
+    pub fn table(&self) -> &TermTable
+        ensures { result.now ≡ self.now.table }
+    {
+        &self.table
+    }
+
     /// The number of a term; none where it is no term of `with`.
     pub fn term(&self, term: &Term) -> Option<TermNo>
         ensures known { IsSome result ↔ IsTerm self.now.table.shape.schema self.now.table.problem.literals term.now }

@@ -1,8 +1,8 @@
 ghost use Rattle.std.specs.Prelude.{◌≡◌, ◌≢◌, ℕ, ◌<◌, ◌≤◌, length, sum, MatchOption};
 ghost use Rattle.ras_closure.specs.Classes.{class, Coarsens};
-ghost use Rattle.ras_closure.specs.Partitions.{ArePartial, AreTogether};
+ghost use Rattle.ras_closure.specs.Partitions.{AreClassesOf, ArePartial, MustBeSame};
 ghost use Rattle.ras_closure.specs.Verdicts.{AreUnbroken, AreClashing};
-ghost use Rattle.ras_closure.specs.Merging.{AreParted, IsUnparted, AreUnparted, MayMerge, AreBreaking};
+ghost use Rattle.ras_closure.specs.Merging.{AreDisequal, HasNoDisequality, HaveNoDisequality, MayMerge, AreConflicting};
 
 use crate::clash::Clash;
 use crate::classes::Classes;
@@ -11,11 +11,11 @@ use crate::steps::Steps;
 use crate::term_table::TermTable;
 
 /// The term and one of the class that were asserted apart.
-fn parted_from(marks: &Marks, classes: &Classes, i: usize, other: u32) -> Option<Clash>
+fn find_disequality_from(marks: &Marks, classes: &Classes, i: usize, other: u32) -> Option<Clash>
     requires width { marks.now.width ≡ length classes.now }
     requires few { length classes.now < 4294967295 }
     requires within { i < length classes.now }
-    ensures { MatchOption result (IsUnparted marks.now classes.now i other marks.now.width) (λ q. AreParted marks.now classes.now (class classes.now i) other q.left.n q.right.n) }
+    ensures { MatchOption result (HasNoDisequality marks.now classes.now i other marks.now.width) (λ q. AreDisequal marks.now classes.now (class classes.now i) other q.left.n q.right.n) }
 {
     for j in 0..marks.width() {
         if classes.of(j) == other {
@@ -31,14 +31,14 @@ fn parted_from(marks: &Marks, classes: &Classes, i: usize, other: u32) -> Option
 }
 
 /// A term of each class that were asserted apart.
-fn parted(marks: &Marks, classes: &Classes, a: u32, b: u32) -> Option<Clash>
+fn find_disequality(marks: &Marks, classes: &Classes, a: u32, b: u32) -> Option<Clash>
     requires width { marks.now.width ≡ length classes.now }
     requires few { length classes.now < 4294967295 }
-    ensures { MatchOption result (AreUnparted marks.now classes.now a b marks.now.width) (λ q. AreParted marks.now classes.now a b q.left.n q.right.n) }
+    ensures { MatchOption result (HaveNoDisequality marks.now classes.now a b marks.now.width) (λ q. AreDisequal marks.now classes.now a b q.left.n q.right.n) }
 {
     for i in 0..marks.width() {
         if classes.of(i) == a {
-            if let Some(clash) = parted_from(marks, classes, i, b) {
+            if let Some(clash) = find_disequality_from(marks, classes, i, b) {
                 return Some(clash);
             }
         }
@@ -48,7 +48,7 @@ fn parted(marks: &Marks, classes: &Classes, a: u32, b: u32) -> Option<Clash>
 
 /// What speaks against one class of two: they have undefs or constants both, or terms that were asserted apart. The terms
 /// of the smaller class are compared with those of the other.
-fn breaking(
+fn find_conflict(
     table: &TermTable,
     marks: &Marks,
     classes: &Classes,
@@ -58,7 +58,7 @@ fn breaking(
 ) -> Option<Clash>
     requires width { marks.now.width ≡ length classes.now }
     requires few { length classes.now < 4294967295 }
-    ensures { MatchOption result (MayMerge table.now marks.now classes.now to from) (AreBreaking table.now marks.now classes.now to from) }
+    ensures { MatchOption result (MayMerge table.now marks.now classes.now to from) (AreConflicting table.now marks.now classes.now to from) }
 {
     if (from as usize) < table.rigid_count() {
         return Some(Clash::between(to as usize, from as usize));
@@ -68,9 +68,9 @@ fn breaking(
     let terms = table.len();
     steps.add(terms.saturating_mul(to_size.min(from_size).saturating_add(3)));
     if to_size < from_size {
-        parted(marks, classes, to, from)
+        find_disequality(marks, classes, to, from)
     } else {
-        parted(marks, classes, from, to)
+        find_disequality(marks, classes, from, to)
     }
 }
 
@@ -83,11 +83,8 @@ pub fn merge(
     left: usize,
     right: usize,
 ) -> Option<Clash>
-    requires width { marks.now.width ≡ length table.now.terms }
-    requires left { left < length table.now.terms }
-    requires right { right < length table.now.terms }
-    requires partial { ArePartial table.now marks.now classes.old }
-    requires together { AreTogether table.now marks.now left right }
+    requires classes { AreClassesOf table.now marks.now classes.old }
+    requires pair { MustBeSame table.now marks.now left right }
     requires differ { class classes.old left ≢ class classes.old right }
     ensures partial { ArePartial table.now marks.now classes.new }
     ensures coarser { Coarsens classes.old classes.new }
@@ -100,7 +97,7 @@ pub fn merge(
     let right_class = classes.of(right);
     let to = left_class.min(right_class);
     let from = left_class.max(right_class);
-    let clash = breaking(table, marks, classes, steps, to, from);
+    let clash = find_conflict(table, marks, classes, steps, to, from);
     steps.add(table.len());
     classes.relabel(from, to);
     clash

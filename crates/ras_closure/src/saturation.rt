@@ -1,9 +1,9 @@
 ghost use Rattle.std.specs.Prelude.{◌≡◌, ◌↔◌, ℕ, ◌<◌, ◌≤◌, length, IsTrue, MatchOption};
 ghost use Rattle.ras_closure.specs.Classes.{class, Coarsens};
 ghost use Rattle.ras_closure.specs.Numbered.{IsImageLink};
-ghost use Rattle.ras_closure.specs.Rules.{IsForcedPair, AreUndefRules, IsSaturated};
-ghost use Rattle.ras_closure.specs.Signatures.{IsImageOf, MeetsImage, MeetsAt};
-ghost use Rattle.ras_closure.specs.Partitions.{AreBelow, ArePartial, AreTogether, IsRest};
+ghost use Rattle.ras_closure.specs.Rules.{IsPendingPair, AreUndefRules, IsSaturated};
+ghost use Rattle.ras_closure.specs.Signatures.{AreSignaturesOf, IsImageOf, RecordsImage, RecordsImageAt};
+ghost use Rattle.ras_closure.specs.Partitions.{AreBelow, AreClassesOf, ArePartial, MustBeSame, IsRest};
 ghost use Rattle.ras_closure.specs.Verdicts.{AreUnbroken, IsVerdict};
 
 use crate::clash::Clash;
@@ -18,7 +18,7 @@ use crate::term_table::TermTable;
 use ras_logic::FunId;
 
 /// Two terms that one of the rules for undef puts together.
-fn forced_by_undef(
+fn find_pending_undef(
     table: &TermTable,
     classes: &Classes,
     i: usize,
@@ -28,7 +28,7 @@ fn forced_by_undef(
     requires long { length classes.now ≡ length table.now.terms }
     requires within { i < length table.now.terms }
     requires link { IsImageLink table.now.links i of function }
-    ensures { MatchOption result (AreUndefRules table.now classes.now i of function) (λ p. IsForcedPair table.now classes.now p.left p.right) }
+    ensures { MatchOption result (AreUndefRules table.now classes.now i of function) (λ p. IsPendingPair table.now classes.now p.left p.right) }
 {
     table.known();
     let decl = table.function(function);
@@ -68,8 +68,8 @@ fn is_image_of(table: &TermTable, classes: &Classes, function: FunId, class: u32
     }
 }
 
-/// The image by the function of a term of the class that was met first: the image `i` where none was.
-fn first_met(
+/// The image that is recorded for the function and the class: the image `i` where none is.
+fn find_congruent_image(
     table: &TermTable,
     classes: &Classes,
     signatures: &mut Signatures,
@@ -82,20 +82,20 @@ fn first_met(
     requires functions { signatures.old.functions ≡ length table.now.shape.schema.functions }
     requires below { class < length table.now.terms }
     requires image { IsImageOf table.now classes.now function class i }
-    ensures { MeetsImage table.now classes.now signatures.old signatures.new function class result }
+    ensures { RecordsImage table.now classes.now signatures.old signatures.new function class result }
 {
     table.known();
     signatures.known();
-    let met = signatures.image(function.n as usize, class as usize) as usize;
-    if is_image_of(table, classes, function, class, met) {
-        return met;
+    let congruent = signatures.image(function.n as usize, class as usize) as usize;
+    if is_image_of(table, classes, function, class, congruent) {
+        return congruent;
     }
     signatures.put(function.n as usize, class as usize, i as u32);
     i
 }
 
 /// Two terms of different classes that a rule on the image `i` puts together.
-fn forced_at(
+fn find_pending_at(
     table: &TermTable,
     classes: &Classes,
     signatures: &mut Signatures,
@@ -105,7 +105,7 @@ fn forced_at(
     requires width { signatures.old.width ≡ length table.now.terms }
     requires functions { signatures.old.functions ≡ length table.now.shape.schema.functions }
     requires within { i < length table.now.terms }
-    ensures found { MatchOption result (MeetsAt table.now classes.now signatures.old signatures.new i) (λ p. IsForcedPair table.now classes.now p.left p.right) }
+    ensures found { MatchOption result (RecordsImageAt table.now classes.now signatures.old signatures.new i) (λ p. IsPendingPair table.now classes.now p.left p.right) }
     ensures width { signatures.new.width ≡ signatures.old.width }
     ensures functions { signatures.new.functions ≡ signatures.old.functions }
 {
@@ -113,36 +113,40 @@ fn forced_at(
     match table.link(i) {
         Link::Base => None,
         Link::Image { of, function } => {
-            if let Some(pair) = forced_by_undef(table, classes, i, of as usize, function) {
+            if let Some(pair) = find_pending_undef(table, classes, i, of as usize, function) {
                 return Some(pair);
             }
             let argument = classes.of(of as usize);
-            let met = first_met(table, classes, signatures, function, argument, i);
+            let congruent = find_congruent_image(table, classes, signatures, function, argument, i);
             let image = classes.of(i);
-            let met_image = classes.of(met);
-            if image == met_image {
+            let congruent_image = classes.of(congruent);
+            if image == congruent_image {
                 return None;
             }
             Some(Pair {
                 left: i,
-                right: met,
+                right: congruent,
             })
         }
     }
 }
 
 /// Two terms of different classes that a rule puts together. It looks once at each image.
-fn forced_pair(table: &TermTable, classes: &Classes, signatures: &mut Signatures) -> Option<Pair>
+fn find_pending_pair(
+    table: &TermTable,
+    classes: &Classes,
+    signatures: &mut Signatures,
+) -> Option<Pair>
     requires below { AreBelow table.now classes.now }
     requires width { signatures.old.width ≡ length table.now.terms }
     requires functions { signatures.old.functions ≡ length table.now.shape.schema.functions }
-    ensures found { MatchOption result (IsSaturated table.now classes.now) (λ p. IsForcedPair table.now classes.now p.left p.right) }
+    ensures found { MatchOption result (IsSaturated table.now classes.now) (λ p. IsPendingPair table.now classes.now p.left p.right) }
     ensures width { signatures.new.width ≡ signatures.old.width }
     ensures functions { signatures.new.functions ≡ signatures.old.functions }
 {
     table.known();
     for i in 0..table.len() {
-        if let Some(pair) = forced_at(table, classes, signatures, i) {
+        if let Some(pair) = find_pending_at(table, classes, signatures, i) {
             return Some(pair);
         }
     }
@@ -158,20 +162,17 @@ pub fn saturate(
     steps: &mut Steps,
     before: Option<Clash>,
 ) -> Option<Clash>
-    requires marks_width { marks.now.width ≡ length table.now.terms }
-    requires width { signatures.old.width ≡ length table.now.terms }
-    requires functions { signatures.old.functions ≡ length table.now.shape.schema.functions }
-    requires partial { ArePartial table.now marks.now classes.old }
+    requires classes { AreClassesOf table.now marks.now classes.old }
+    requires signatures { AreSignaturesOf table.now signatures.old }
     requires verdict { IsVerdict table.now marks.now classes.old before }
     ensures rest { IsRest table.now marks.now classes.old classes.new }
     ensures verdict { IsVerdict table.now marks.now classes.new result }
-    ensures width { signatures.new.width ≡ signatures.old.width }
-    ensures functions { signatures.new.functions ≡ signatures.old.functions }
+    ensures signatures { AreSignaturesOf table.now signatures.new }
 {
     table.known();
     let mut clash = before;
     steps.add(table.len());
-    while let Some(pair) = forced_pair(table, classes, signatures) {
+    while let Some(pair) = find_pending_pair(table, classes, signatures) {
         let found = merge(table, marks, classes, steps, pair.left, pair.right);
         clash = clash.or(found);
         steps.add(table.len());
@@ -188,11 +189,8 @@ fn join(
     left: usize,
     right: usize,
 ) -> Option<Clash>
-    requires width { marks.now.width ≡ length table.now.terms }
-    requires left { left < length table.now.terms }
-    requires right { right < length table.now.terms }
-    requires partial { ArePartial table.now marks.now classes.old }
-    requires together { AreTogether table.now marks.now left right }
+    requires classes { AreClassesOf table.now marks.now classes.old }
+    requires pair { MustBeSame table.now marks.now left right }
     requires unbroken { AreUnbroken table.now marks.now classes.old }
     ensures partial { ArePartial table.now marks.now classes.new }
     ensures coarser { Coarsens classes.old classes.new }
@@ -215,19 +213,14 @@ pub fn unite(
     left: usize,
     right: usize,
 ) -> Option<Clash>
-    requires marks_width { marks.now.width ≡ length table.now.terms }
-    requires width { signatures.old.width ≡ length table.now.terms }
-    requires functions { signatures.old.functions ≡ length table.now.shape.schema.functions }
-    requires left { left < length table.now.terms }
-    requires right { right < length table.now.terms }
-    requires partial { ArePartial table.now marks.now classes.old }
-    requires together { AreTogether table.now marks.now left right }
+    requires classes { AreClassesOf table.now marks.now classes.old }
+    requires signatures { AreSignaturesOf table.now signatures.old }
+    requires pair { MustBeSame table.now marks.now left right }
     requires unbroken { AreUnbroken table.now marks.now classes.old }
     ensures rest { IsRest table.now marks.now classes.old classes.new }
     ensures merged { class classes.new left ≡ class classes.new right }
     ensures verdict { IsVerdict table.now marks.now classes.new result }
-    ensures width { signatures.new.width ≡ signatures.old.width }
-    ensures functions { signatures.new.functions ≡ signatures.old.functions }
+    ensures signatures { AreSignaturesOf table.now signatures.new }
 {
     let clash = join(table, marks, classes, steps, left, right);
     saturate(table, marks, classes, signatures, steps, clash)

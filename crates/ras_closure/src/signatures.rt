@@ -4,7 +4,7 @@ ghost use Rattle.ras_closure.specs.Signatures.{SignatureParts, signature};
 use std::alloc::{AllocError, Global};
 use std::marker::Model;
 
-/// For each function and class of terms an image by the function of a term of the class, if one was met: a second image is
+/// For each function and class of terms an image by the function of a term of the class, if one is recorded: a second one is
 /// found to have the same signature without a look at all pairs. What was put before classes changed may be stale, so a
 /// reader tests what it finds.
 #[derive(Debug, Drop)]
@@ -46,6 +46,7 @@ impl Signatures {
     pub fn known(&self)
         ensures { length self.now.images ≡ self.now.functions * self.now.width }
     {
+        // to look at a field gives the proof the invariant
         let _ = &self.images;
     }
 

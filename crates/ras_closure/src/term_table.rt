@@ -74,6 +74,7 @@ impl TermTable {
     pub fn known(&self)
         ensures { IsTable self.now }
     {
+        // to look at a field gives the proof the invariant
         let _ = &self.links;
     }
 

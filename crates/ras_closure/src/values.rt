@@ -1,5 +1,5 @@
 ghost use Rattle.std.specs.Prelude.{◌≡◌, ℕ, ◌+◌, ◌<◌, ◌≤◌, length, get_or, [], MatchOption, IfOk};
-ghost use Rattle.ras_logic.specs.declared.term.Base.TheVariants.{Cell};
+ghost use Rattle.ras_logic.specs.declared.term.Base.TheVariants.{Cell, Param};
 ghost use Rattle.ras_closure.specs.Values.{AreElementsOf, AreRowsWith, AreModelValues, base_of, AreElementsTo};
 ghost use Rattle.ras_closure.specs.Elements.{number};
 
@@ -69,6 +69,18 @@ fn elements_of(
     Ok(List::from_vec(elements))
 }
 
+/// The elements of the data parameters, undef where one is no term.
+pub fn param_elements(
+    alloc: Global,
+    table: &TermTable,
+    numbers: &[u32],
+) -> Result<List<u32>, AllocError>
+    requires { length numbers.now ≡ length table.now.terms }
+    ensures { IfOk result (AreElementsOf table.now.terms (number numbers.now) Param (length table.now.problem.params)) }
+{
+    elements_of(alloc, table, numbers, Bases::Params, table.param_count())
+}
+
 /// How many columns a relation has.
 fn width_of(table: &TermTable, r: RelId) -> usize
     ensures width { result ≡ length (get_or table.now.shape.relations r.n []) }
@@ -103,6 +115,6 @@ pub fn values(alloc: Global, table: &TermTable, numbers: &[u32]) -> Result<Value
 {
     let vars = elements_of(alloc, table, numbers, Bases::Vars, table.var_count())?;
     let rows = rows(alloc, table, numbers)?;
-    let params = elements_of(alloc, table, numbers, Bases::Params, table.param_count())?;
+    let params = param_elements(alloc, table, numbers)?;
     Ok(Values { vars, rows, params })
 }

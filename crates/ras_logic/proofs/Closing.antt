@@ -23,7 +23,8 @@ use Rattle.ras_logic.proofs.TermSorts.{and_then_through, and_then_from, and_then
 use Rattle.ras_logic.specs.declared.tree.Node.{Node}
 use Rattle.ras_logic.specs.declared.tree.Node.TheVariants.{Leaf, Split}
 use Rattle.ras_logic.specs.Refutations.{AreRowsOf, chosen_row, children_facts, CloseAll, Closes, HoldsOfSome}
-use Rattle.ras_logic.proofs.Clashes.{clash-none, from_known}
+use Rattle.ras_logic.proofs.Elements.{from_known}
+use Rattle.ras_logic.proofs.Clashes.{clash-none}
 
 not_false : (b : Bool) → not b ≡ false → b ≡ true
 not_false true h = refl
@@ -75,7 +76,7 @@ module _ (shape : ShapeParts) (rows formula_rows : List RelId) (params : List So
       replaced-sort shape rows params (chosen_row chosen) t
       ∙ and_then_from (sort_along shape.schema t.path) (sort_of shape rows params (chosen_row chosen t.base)) u.mid s (replaced-base t.base u.mid u.first) u.second
 
-  replaced-fits : (l : Literal) → LiteralFits shape formula_rows [] l → LiteralFits shape rows params (negated (replace (chosen_row chosen) l))
+  pub replaced-fits : (l : Literal) → LiteralFits shape formula_rows [] l → LiteralFits shape rows params (negated (replace (chosen_row chosen) l))
   replaced-fits (Equal left right same) f = (f.0, replaced-term left f.0 f.1, replaced-term right f.0 f.2)
 
 module _ (shape : ShapeParts) (d : RawDb) (db : IsDatabase shape.schema d) (ok : IsSchema shape.schema)

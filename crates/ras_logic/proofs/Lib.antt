@@ -3,6 +3,10 @@ pub mod Chains
 pub mod Clashes
 pub mod Closing
 pub mod Columns
+pub mod Elements
+pub mod MoreFacts
 pub mod Preorder
 pub mod Rounds
+pub mod SameSorts
+pub mod Soundness
 pub mod TermSorts

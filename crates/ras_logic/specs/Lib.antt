@@ -6,6 +6,7 @@ pub mod Shapes
 pub mod ShapeFaults
 pub mod Databases
 pub mod Terms
+pub mod Literals
 pub mod Formulas
 pub mod CubeFaults
 pub mod Truth

@@ -52,6 +52,7 @@ impl Cube {
         ensures rows { length self.now.rows ≤ 65535 }
         ensures literals { length self.now.literals ≤ 4294967295 }
     {
+        // their contracts say how long the lists are at most
         let _rows = self.rows.len();
         let _literals = self.literals.len();
     }

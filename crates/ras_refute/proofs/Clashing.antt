@@ -1,8 +1,9 @@
 -- Facts clash exactly where they clash in the classes of the least relation.
-use Rattle.std.proofs.Common.{◌≡◌, ℕ, ◌<◌, Bool, true, false, List, length, get_or, refl, sym, ◌∙◌, ap, subst, arith, ◌⊎◌, inl, inr}
+use Rattle.std.proofs.Common.{◌≡◌, ◌≢◌, ℕ, ◌<◌, Bool, true, false, List, length, get_or, refl, sym, ◌∙◌, ap, subst, arith, ◌⊎◌, inl, inr}
 use Rattle.std.specs.Prelude.{slice_get, Option, Some, None, is_some, MatchOption, Contains}
 use Rattle.std.proofs.lemmas.Bool.{eqb-true, eq-eqb}
 use Rattle.std.proofs.lemmas.Option.{slice_get-get_or}
+use Rattle.ras_logic.specs.declared.ids.ConstId.{ConstId}
 use Rattle.ras_logic.specs.declared.term.Base as base
 use Rattle.ras_logic.specs.declared.term.Base.TheVariants.{Constant, Undef}
 use Rattle.ras_logic.specs.declared.term.Term.{Term}
@@ -15,13 +16,15 @@ use Rattle.ras_refute.specs.declared.entry.Entry.{Entry}
 use Rattle.ras_refute.specs.declared.entry.Entry.TheVariants.{Root}
 use Rattle.ras_refute.specs.declared.entry.Pair.{Pair}
 use Rattle.ras_refute.specs.declared.table.Table.{Table}
-use Rattle.ras_refute.specs.Sides.{same_of}
+use Rattle.ras_logic.specs.Literals.{same_of}
 use Rattle.ras_refute.specs.Tables.{IsAt, AreSidesOf, IsTableOf}
-use Rattle.ras_refute.specs.Classes.{class, MeetFacts, IsUnmet, AreLeast, ArePartial}
-use Rattle.ras_refute.specs.Clashing.{AreOpposed, HasBroken, HasOpposed}
+use Rattle.ras_refute.specs.Classes.{class, RespectFacts, IsViolated, AreLeast, ArePartial}
+use Rattle.ras_refute.specs.declared.entry.Rigid.{Rigid}
+use Rattle.ras_refute.specs.declared.entry.Rigid.TheVariants as rigid
+use Rattle.ras_refute.specs.Clashing.{rigid_of, HasViolated, HasDistinct, AreBounded}
 use Rattle.ras_refute.proofs.Entries.{entry-at, root-entry, at-same, at-within}
 use Rattle.ras_refute.proofs.Due.{sides-at, length-sides}
-use Rattle.ras_refute.proofs.Soundness.{contains-at}
+use Rattle.ras_logic.proofs.Elements.{contains-at}
 use Rattle.ras_refute.proofs.Least.{Alike, alike}
 
 -- each term in a class of its own
@@ -30,6 +33,7 @@ pub separate-partial : (schema : SchemaParts) (facts : List Literal) (t : Table)
 separate-partial schema facts t classes table long each = record {
   table = table;
   as_many = long;
+  low = λ i lt. omega (arith, each i lt);
   sound = λ i j s u at_i at_j e.
       let one = each i (at-within t.entries table.table i s at_i) in
       let two = each j (at-within t.entries table.table j u at_j) in
@@ -43,45 +47,61 @@ module _ (schema : SchemaParts) (ok : IsSchema schema) (facts : List Literal) (t
   sides_clash (Equal left right same) pair inside apart sides together =
       stated_apart left right (subst (λ (b : Bool). Contains facts (Equal left right b)) apart inside) (least.partial.sound pair.left pair.right left right sides.0 sides.1 together)
 
-  broken_clash : HasBroken facts t.sides classes → FactsClash schema facts
-  broken_clash (pair, h) =
+  violated_clash : HasViolated facts t.sides classes → FactsClash schema facts
+  violated_clash (pair, h) =
       sides_clash h.fact pair (contains-at facts h.place h.fact h.known) h.says (sides-at t.entries facts t.sides least.partial.table.numbers h.place h.fact pair h.known h.numbers)
       (eqb-true (class classes pair.left) (class classes pair.right) h.differ)
 
-  opposed_clash : (i j : ℕ) (left right : Entry) → slice_get t.entries i ≡ Some left → slice_get t.entries j ≡ Some right → AreOpposed left right → class classes i ≡ class classes j → FactsClash schema facts
-  opposed_clash i j (Root (Constant c)) (Root (Constant e)) is_left is_right differ together =
-      two_constants c e differ (least.partial.sound i j (constant_term c) (constant_term e)
-      (entry-at t.entries least.partial.table.table i (Root (Constant c)) is_left) (entry-at t.entries least.partial.table.table j (Root (Constant e)) is_right) together)
-  opposed_clash i j (Root (Constant c)) (Root (Undef s)) is_left is_right opposed together =
+  distinct_clash : (i j : ℕ) (left right : Entry) (q r : Rigid) → slice_get t.entries i ≡ Some left → slice_get t.entries j ≡ Some right
+      → rigid_of left ≡ Some q → rigid_of right ≡ Some r → q ≢ r → class classes i ≡ class classes j → FactsClash schema facts
+  distinct_clash i j (Root (Constant c)) (Root (Constant e)) q r is_left is_right rigid_left rigid_right differ together =
+      two_constants c e (λ (same : c ≡ e). differ (same_rigid c e q r rigid_left rigid_right same))
+      (least.partial.sound i j (constant_term c) (constant_term e)
+      (entry-at t.entries least.partial.table.table i (Root (Constant c)) is_left)
+      (entry-at t.entries least.partial.table.table j (Root (Constant e)) is_right) together)
+    where
+      same_rigid : (c e : ConstId) (q r : Rigid) → Some (rigid.Constant c) ≡ Some q → Some (rigid.Constant e) ≡ Some r → c ≡ e → q ≡ r
+      same_rigid c e q r h g same = cc
+  distinct_clash i j (Root (Constant c)) (Root (Undef s)) q r is_left is_right rigid_left rigid_right differ together =
       constant_undef c s (least.partial.sound i j (constant_term c) (undef_term s)
-      (entry-at t.entries least.partial.table.table i (Root (Constant c)) is_left) (entry-at t.entries least.partial.table.table j (Root (Undef s)) is_right) together)
-  opposed_clash i j left right is_left is_right opposed together = absurd opposed
+      (entry-at t.entries least.partial.table.table i (Root (Constant c)) is_left)
+      (entry-at t.entries least.partial.table.table j (Root (Undef s)) is_right) together)
+  distinct_clash i j (Root (Undef s)) (Root (Constant c)) q r is_left is_right rigid_left rigid_right differ together =
+      constant_undef c s (least.partial.sound j i (constant_term c) (undef_term s)
+      (entry-at t.entries least.partial.table.table j (Root (Constant c)) is_right)
+      (entry-at t.entries least.partial.table.table i (Root (Undef s)) is_left) (sym together))
+  distinct_clash i j (Root (Undef s)) (Root (Undef u)) q r is_left is_right rigid_left rigid_right differ together =
+      absurd (differ (same_undef q r rigid_left rigid_right))
+    where
+      same_undef : (q r : Rigid) → Some rigid.Undef ≡ Some q → Some rigid.Undef ≡ Some r → q ≡ r
+      same_undef q r h g = cc
+  distinct_clash i j left right q r is_left is_right rigid_left rigid_right differ together = absurd (cc)
 
-  pub found-clash : HasBroken facts t.sides classes ⊎ HasOpposed t.entries classes → FactsClash schema facts
-  found-clash (inl h) = broken_clash h
-  found-clash (inr h) = opposed_clash h.0 h.1.other h.1.left h.1.right h.1.left_is h.1.right_is h.1.opposed h.1.together
+  pub found-clash : HasViolated facts t.sides classes ⊎ HasDistinct t.entries classes → FactsClash schema facts
+  found-clash (inl h) = violated_clash h
+  found-clash (inr h) =
+      distinct_clash h.i h.j h.left_is.entry h.right_is.entry h.left h.right h.left_is.is h.right_is.is h.left_is.rigid h.right_is.rigid h.differ h.together
 
   one_place : (i j : ℕ) (s : Term) → IsAt t.entries i s → IsAt t.entries j s → class classes i ≡ class classes j
   one_place i j s a b = ap (class classes) (least.partial.table.table.different i j s a b)
 
-  -- two opposed terms that are together
-  opposed_found : (b d : base.Base) → AreOpposed (Root b) (Root d) → Alike schema ok facts t least.partial.table classes least.closed (base_term b) (base_term d)
-      → HasBroken facts t.sides classes ⊎ HasOpposed t.entries classes
-  opposed_found b d opposed a =
-      inr (
-        a.i,
-        record {
-          left = Root b;
-          other = a.j;
-          right = Root d;
-          left_is = root-entry t.entries least.partial.table.table a.i b a.left;
-          right_is = root-entry t.entries least.partial.table.table a.j d a.right;
-          opposed = opposed;
-          together = a.same;
-        },
-      )
+  -- two distinct terms that are together
+  distinct_found : (b d : base.Base) (q r : Rigid) → rigid_of (Root b) ≡ Some q → rigid_of (Root d) ≡ Some r → q ≢ r
+      → Alike schema ok facts t least.partial.table classes least.closed (base_term b) (base_term d)
+      → HasViolated facts t.sides classes ⊎ HasDistinct t.entries classes
+  distinct_found b d q r rigid_b rigid_d differ a =
+      inr (record {
+        i = a.i;
+        j = a.j;
+        left = q;
+        right = r;
+        left_is = record { entry = Root b; is = root-entry t.entries least.partial.table.table a.i b a.left; rigid = rigid_b };
+        right_is = record { entry = Root d; is = root-entry t.entries least.partial.table.table a.j d a.right; rigid = rigid_d };
+        differ = differ;
+        together = a.same;
+      })
 
-  pub clash-found : FactsClash schema facts → HasBroken facts t.sides classes ⊎ HasOpposed t.entries classes
+  pub clash-found : FactsClash schema facts → HasViolated facts t.sides classes ⊎ HasDistinct t.entries classes
   clash-found (stated_apart s u inside r) =
       let a = alike schema ok facts t least.partial.table classes least.closed r in
       let fact : Literal = Equal s u false in
@@ -102,11 +122,22 @@ module _ (schema : SchemaParts) (ok : IsSchema schema) (facts : List Literal) (t
           differ = eq-eqb (class classes pair.left) (class classes pair.right) together;
         },
       )
-  clash-found (two_constants c e differ r) = opposed_found (Constant c) (Constant e) differ (alike schema ok facts t least.partial.table classes least.closed r)
-  clash-found (constant_undef c s r) = opposed_found (Constant c) (Undef s) tt (alike schema ok facts t least.partial.table classes least.closed r)
+  clash-found (two_constants c e differ r) =
+      distinct_found (Constant c) (Constant e) (rigid.Constant c) (rigid.Constant e) refl refl (λ (h : rigid.Constant c ≡ rigid.Constant e). differ (cc))
+      (alike schema ok facts t least.partial.table classes least.closed r)
+  clash-found (constant_undef c s r) =
+      distinct_found (Constant c) (Undef s) (rigid.Constant c) rigid.Undef refl refl (λ (h : rigid.Constant c ≡ rigid.Undef). cc)
+      (alike schema ok facts t least.partial.table classes least.closed r)
 
--- whether a fact that says not same is broken
-pub broken-told : (facts : List Literal) (sides : List Pair) (classes : List ℕ) (found : Option Pair) → MatchOption found (MeetFacts facts sides classes false) (IsUnmet facts sides classes false)
-    → (is_some found ≡ true → HasBroken facts sides classes) × (HasBroken facts sides classes → is_some found ≡ true)
-broken-told facts sides classes None met = (λ e. absurd (cc), λ (pair, h). absurd (cc (met h.place h.fact pair h.known h.numbers h.says, h.differ)))
-broken-told facts sides classes (Some pair) unmet = (λ e. (pair, unmet), λ h. refl)
+-- classes of the least relation have the numbers of entries
+pub least-bounded : (schema : SchemaParts) (facts : List Literal) (t : Table) (classes : List ℕ) → AreLeast schema facts t classes → AreBounded t.entries classes
+least-bounded schema facts t classes least = record {
+  as_many = least.partial.as_many;
+  low = λ i lt. omega (arith, lt, least.partial.low i lt);
+}
+
+-- whether a fact that says not same is violated
+pub violated-told : (facts : List Literal) (sides : List Pair) (classes : List ℕ) (found : Option Pair) → MatchOption found (RespectFacts facts sides classes false) (IsViolated facts sides classes false)
+    → (is_some found ≡ true → HasViolated facts sides classes) × (HasViolated facts sides classes → is_some found ≡ true)
+violated-told facts sides classes None respected = (λ e. absurd (cc), λ (pair, h). absurd (cc (respected h.place h.fact pair h.known h.numbers h.says, h.differ)))
+violated-told facts sides classes (Some pair) pending = (λ e. (pair, pending), λ h. refl)

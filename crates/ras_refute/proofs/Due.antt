@@ -13,8 +13,8 @@ use Rattle.ras_refute.specs.declared.entry.Pair.{Pair}
 use Rattle.ras_refute.specs.Tables.{terms_of, AreSidesOf, AreAllSides, HasUndefs}
 use Rattle.ras_logic.specs.Schemas.{SchemaParts}
 use Rattle.ras_refute.specs.declared.table.Table.{Table}
-use Rattle.ras_refute.specs.declared.rules.Unmet.{Unmet}
-use Rattle.ras_refute.specs.Classes.{class, MeetFacts, IsUnmet, MeetRulesAt, AreClosed, IsDue, by_fact}
+use Rattle.ras_refute.specs.declared.rules.Pending.{Pending}
+use Rattle.ras_refute.specs.Classes.{class, RespectFacts, IsViolated, RespectRulesAt, AreClosed, IsDue, by_fact}
 use Rattle.ras_refute.proofs.Entries.{length-terms_of}
 
 -- the undef of a sort is in the table
@@ -63,22 +63,22 @@ sides-read es facts sides items k numbers e lt =
     record { at = at; left = within.0; right = within.1 }
 
 -- the sides of a fact that says the same belong in one class
-pub unmet-due : (schema : SchemaParts) (facts : List Literal) (t : Table) (classes : List ℕ) (pair : Pair) → AreAllSides t.entries facts t.sides
-    → IsUnmet facts t.sides classes true pair → IsDue schema facts t classes pair
-unmet-due schema facts t classes pair numbers unmet =
-    let within = pair-within t.entries facts t.sides numbers unmet.place pair unmet.numbers in
+pub pending-due : (schema : SchemaParts) (facts : List Literal) (t : Table) (classes : List ℕ) (pair : Pair) → AreAllSides t.entries facts t.sides
+    → IsViolated facts t.sides classes true pair → IsDue schema facts t classes pair
+pending-due schema facts t classes pair numbers pending =
+    let within = pair-within t.entries facts t.sides numbers pending.place pair pending.numbers in
     record {
-      due = by_fact unmet.place unmet.fact pair unmet.known unmet.numbers unmet.says;
-      differ = λ e. absurd (cc (eq-eqb (class classes pair.left) (class classes pair.right) e, unmet.differ));
+      due = by_fact pending.place pending.fact pair pending.known pending.numbers pending.says;
+      differ = λ e. absurd (cc (eq-eqb (class classes pair.left) (class classes pair.right) e, pending.differ));
       left = within.0;
       right = within.1;
     }
 
 -- no rule asks for more at the terms from a number on, and the look over those before it is told of
-pub closed-or-due : (schema : SchemaParts) (facts : List Literal) (t : Table) (classes : List ℕ) (first : ℕ) (found : Option Unmet) → first ≤ length t.entries → MeetFacts facts t.sides classes true
-    → ((i : ℕ) → i < length t.entries → first ≤ i → MeetRulesAt schema t.entries classes i)
-    → MatchOption found ((i : ℕ) → i < first → 0 ≤ i → MeetRulesAt schema t.entries classes i) (λ (u : Unmet). (u.at < first) × ((fs : List Literal) → IsDue schema fs t classes u.pair))
-    → MatchOption found (AreClosed schema facts t classes) (λ (u : Unmet). (u.at ≤ length t.entries) × IsDue schema facts t classes u.pair)
+pub closed-or-due : (schema : SchemaParts) (facts : List Literal) (t : Table) (classes : List ℕ) (first : ℕ) (found : Option Pending) → first ≤ length t.entries → RespectFacts facts t.sides classes true
+    → ((i : ℕ) → i < length t.entries → first ≤ i → RespectRulesAt schema t.entries classes i)
+    → MatchOption found ((i : ℕ) → i < first → 0 ≤ i → RespectRulesAt schema t.entries classes i) (λ (u : Pending). (u.at < first) × ((fs : List Literal) → IsDue schema fs t classes u.pair))
+    → MatchOption found (AreClosed schema facts t classes) (λ (u : Pending). (u.at ≤ length t.entries) × IsDue schema facts t classes u.pair)
 closed-or-due schema facts t classes first (Some u) within stated after before = (omega (arith, before.0, within), before.1 facts)
 closed-or-due schema facts t classes first None within stated after before = record {
   stated = stated;

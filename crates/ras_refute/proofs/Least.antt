@@ -1,5 +1,5 @@
 -- Classes of which no fact and no rule asks for more have together what the least relation has.
-use Rattle.std.proofs.Common.{◌≡◌, ℕ, true, List, [], ◌∷◌, ◌++◌, refl, sym, ◌∙◌, ap, subst, arith, ⊎_elim, append_assoc, get_or}
+use Rattle.std.proofs.Common.{◌≡◌, ℕ, ◌+◌, true, List, [], ◌∷◌, ◌++◌, refl, sym, ◌∙◌, ap, subst, arith, ⊎_elim, append_assoc, get_or}
 use Rattle.std.specs.Prelude.{slice_get, Some, Contains}
 use Rattle.std.proofs.lemmas.Bool.{eqb-true}
 use Rattle.std.proofs.lemmas.Option.{slice_get-get_or}
@@ -21,9 +21,9 @@ use Rattle.ras_refute.specs.declared.table.Table.{Table}
 use Rattle.ras_refute.specs.Tables.{IsAt, IsTable, AreAllSides, IsTableOf}
 use Rattle.ras_refute.specs.Classes.{class, AreClosed}
 use Rattle.ras_refute.proofs.Entries.{entry-at, at-within, image-entry, same_term}
-use Rattle.ras_refute.proofs.Tables.{contains_cases}
+use Rattle.ras_logic.proofs.Elements.{from_known, contains_cases}
 use Rattle.ras_refute.proofs.Due.{sides-at, length-sides}
-use Rattle.ras_refute.proofs.Soundness.{from_known, undef-at}
+use Rattle.ras_refute.proofs.Soundness.{undef-at}
 
 -- a side of a fact is in the table
 side_at : (es : List Entry) (facts : List Literal) (pairs : List Pair) → AreAllSides es facts pairs → (t : Term) → Contains (sides facts) t → (i : ℕ) × IsAt es i t
@@ -56,7 +56,8 @@ module _ (schema : SchemaParts) (ok : IsSchema schema) (facts : List Literal) (t
   complete (of_literals {p = p} w inside pre) =
       let side = side_at t.entries facts t.sides table.numbers w inside in
       prefix_at_place t.entries table.table p w side.0 pre side.1
-  complete (a_constant c lt) = let k = table.constants c lt in (k.0, entry-at t.entries table.table k.0 (Root (Constant c)) k.1)
+  complete (a_constant c lt) =
+      (schema.sorts + c.n, entry-at t.entries table.table (schema.sorts + c.n) (Root (Constant c)) (table.constants c lt))
   complete (an_undef s lt) = (s.n, undef-at schema facts t table s lt)
 
   module _ (classes : List ℕ) (closed : AreClosed schema facts t classes) where

@@ -6,6 +6,7 @@ pub mod Due
 pub mod Soundness
 pub mod Least
 pub mod Clashing
+pub mod Naming
 pub mod Choices
 pub mod Walking
 pub mod Wider

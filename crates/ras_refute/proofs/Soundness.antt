@@ -2,6 +2,7 @@
 use Rattle.std.proofs.Common.{◌≡◌, ℕ, ◌<◌, true, List, length, sym, subst, ⊎_elim}
 use Rattle.std.specs.Prelude.{slice_get, Some, Contains, All}
 use Rattle.std.proofs.lemmas.Option.{slice_get_within, get_or_from_slice_get}
+use Rattle.ras_logic.proofs.Elements.{from_known, contains-at}
 use Rattle.ras_logic.specs.declared.ids.SortId.{SortId}
 use Rattle.ras_logic.specs.declared.term.Base.TheVariants.{Undef}
 use Rattle.ras_logic.specs.declared.term.Term.{Term}
@@ -13,18 +14,11 @@ use Rattle.ras_logic.specs.Clashes.{Together, symmetric, transitive, stated, sam
 use Rattle.ras_refute.specs.declared.entry.Entry.TheVariants.{Root}
 use Rattle.ras_refute.specs.declared.entry.Pair.{Pair}
 use Rattle.ras_refute.specs.declared.table.Table.{Table}
-use Rattle.ras_refute.specs.Sides.{same_of}
+use Rattle.ras_logic.specs.Literals.{same_of}
 use Rattle.ras_refute.specs.Tables.{IsAt, AreSidesOf, IsTableOf}
 use Rattle.ras_refute.specs.Classes.{class, Unites, Due, by_fact, by_images, by_undef, by_total, AreSound}
 use Rattle.ras_refute.proofs.Entries.{entry-at, term-at, at-within, at-same, image-of}
 use Rattle.ras_refute.proofs.Due.{sides-at}
-
--- what holds of each element holds of one that is read
-pub from_known : {A : Type 0} (P : A → Type 0) (xs : List A) → All P xs → (k : ℕ) (x : A) → slice_get xs k ≡ Some x → P x
-from_known P xs all k x known = subst P (get_or_from_slice_get xs k x x known) (all k x (slice_get_within xs k x known))
-
-pub contains-at : {A : Type 0} (xs : List A) (k : ℕ) (x : A) → slice_get xs k ≡ Some x → Contains xs x
-contains-at xs k x known = (k, slice_get_within xs k x known, get_or_from_slice_get xs k x x known)
 
 module _ (schema : SchemaParts) (facts : List Literal) (t : Table) (table : IsTableOf schema facts t) where
   -- the terms of these numbers are together

@@ -2,9 +2,12 @@
 use Rattle.std.proofs.Common.{◌≡◌, ℕ, zero, suc, ◌+◌, ◌<◌, Bool, List, [], ◌∷◌, ◌++◌, length, refl, sym, ◌∙◌, ap, subst, arith, ◌⊎◌, inl, inr, ⊎_elim}
 use Rattle.std.specs.Prelude.{slice_get, Some, Contains}
 use Rattle.std.proofs.lemmas.Option.{none-some, slice_get_within}
+use Rattle.std.proofs.lemmas.List.{length_push}
+use Rattle.ras_logic.proofs.Elements.{contains-here, contains-later, contains_cases}
 use Rattle.ras_logic.specs.declared.ids.SortId.{SortId}
 use Rattle.ras_logic.specs.declared.ids.ConstId.{ConstId}
-use Rattle.ras_logic.specs.declared.term.Base.TheVariants.{Constant, Undef}
+use Rattle.ras_logic.specs.declared.term.Base.{Base}
+use Rattle.ras_logic.specs.declared.term.Base.TheVariants.{Var, Cell, Constant, Undef, Param}
 use Rattle.ras_logic.specs.declared.term.Term.{Term}
 use Rattle.ras_logic.specs.declared.literal.Literal.{Literal}
 use Rattle.ras_logic.specs.declared.literal.Literal.TheVariants.{Equal}
@@ -14,20 +17,10 @@ use Rattle.ras_logic.specs.Clashes.{sides, IsPrefixOf, IsTerm, of_literals, a_co
 use Rattle.ras_refute.specs.declared.entry.Entry.{Entry}
 use Rattle.ras_refute.specs.declared.entry.Entry.TheVariants.{Root, Image}
 use Rattle.ras_refute.specs.declared.entry.Pair.{Pair}
-use Rattle.ras_refute.specs.Tables.{terms_of, IsAt, IsTable, Adds, AddsEntry, AddsTerm, AreSidesOf, AreAllSides, IsPartOf, AddsFact, AddsFacts, AddsUndefs, AddsConstants, IsTableOf}
+use Rattle.ras_refute.specs.Tables.{terms_of, IsAt, IsTable, HasFixed, IsFixedPlace, Grows, Adds, AddsEntry, AddsTerm, AreSidesOf, AreAllSides, IsPartOf, AddsFact, AddsFacts, AddsUndefs, AddsConstants, IsTableOf}
 use Rattle.ras_refute.proofs.Lists.{grows-push, pushed-at}
-use Rattle.ras_refute.proofs.Entries.{adds-none, adds-then, adds-pushed, length-terms_of, entry-at}
-use Rattle.ras_refute.specs.Sides.{left_of, right_of}
-
-pub contains-here : {X : Type 0} (x : X) (xs : List X) → Contains (x ∷ xs) x
-contains-here x xs = (0, omega arith, refl)
-
-pub contains-later : {X : Type 0} (x y : X) (xs : List X) → Contains xs y → Contains (x ∷ xs) y
-contains-later x y xs h = (suc h.0, omega (arith, h.1), h.2)
-
-pub contains_cases : {X : Type 0} (x y : X) (xs : List X) → Contains (x ∷ xs) y → (x ≡ y) ⊎ Contains xs y
-contains_cases x y xs (zero, lt, e) = inl e
-contains_cases x y xs (suc k, lt, e) = inr (k, omega (arith, lt), e)
+use Rattle.ras_refute.proofs.Entries.{adds-known, adds-none, adds-then, adds-pushed, length-terms_of, entry-at}
+use Rattle.ras_logic.specs.Literals.{left_of, right_of}
 
 -- a fact of a literal was added
 pub adds-fact : (old mid new : List Entry) (left right : Term) (same : Bool) (i j : ℕ) → AddsTerm old mid left i → AddsTerm mid new right j
@@ -89,6 +82,7 @@ at-nothing i t at = let lt = slice_get_within (terms_of []) i t at in absurd (om
 -- the empty table
 pub adds-no_undefs : AddsUndefs 0 []
 adds-no_undefs = record {
+  long = refl;
   adds = adds-none (λ (t : Term). (s : SortId) × (s.n < 0) × (t ≡ undef_term s)) []
       (record { earlier = λ i of f h. absurd (none-some (Image of f) h); different = λ i j t a b. absurd (at-nothing i t a) });
   undefs = λ s lt. absurd (omega (arith, lt));
@@ -104,8 +98,8 @@ undef-same n s e = ap (λ (r : SortId). r.n) (go (ap (λ (u : Term). u.base) e))
     go h = cc
 
 -- one sort's undef more
-pub adds-undef : (n : ℕ) (es : List Entry) → length es ≡ n → AddsUndefs n es → AddsUndefs (n + 1) (es ++ Root (Undef (record { n = n })) ∷ [])
-adds-undef n es long before =
+pub adds-undef : (n : ℕ) (es : List Entry) → AddsUndefs n es → AddsUndefs (n + 1) (es ++ Root (Undef (record { n = n })) ∷ [])
+adds-undef n es before =
     let e : Entry = Root (Undef (record { n = n })) in
     let fresh : (i : ℕ) → slice_get es i ≡ Some e → ⊥ = λ i is.
     ⊎_elim (λ (h : IsAt [] i (undef_term (record { n = n }))). at-nothing i (undef_term (record { n = n })) h)
@@ -113,33 +107,88 @@ adds-undef n es long before =
     (before.adds.only i (undef_term (record { n = n })) (entry-at es before.adds.table i e is)) in
     let more = adds-pushed es before.adds.table e tt fresh in
     record {
+      long = omega (arith, length_push es e, before.long);
       adds = adds-then (λ (t : Term). (s : SortId) × (s.n < n) × (t ≡ undef_term s)) (λ (t : Term). t ≡ undef_term (record { n = n }))
           (λ (t : Term). (s : SortId) × (s.n < n + 1) × (t ≡ undef_term s))
           (λ t h. (h.0, omega (arith, h.1), h.2)) (λ t h. (record { n = n }, omega arith, h)) [] es (es ++ e ∷ []) before.adds more.adds;
       undefs = λ s lt. ⊎_elim (λ (h : s.n < n). grows-push es e (Root (Undef s)) s.n (before.undefs s h))
-          (λ (h : s.n ≡ n). subst (λ (m : ℕ). slice_get (es ++ e ∷ []) m ≡ Some (Root (Undef s))) (long ∙ sym h)
+          (λ (h : s.n ≡ n). subst (λ (m : ℕ). slice_get (es ++ e ∷ []) m ≡ Some (Root (Undef s))) (before.long ∙ sym h)
           (pushed-at es e ∙ ap (λ (m : ℕ). Some (Root (Undef (record { n = m })))) (sym h))) (sort_cases s.n n lt);
     }
 
-pub adds-no_constants : (es : List Entry) → IsTable es → AddsConstants 0 es es
-adds-no_constants es table = record {
-  adds = adds-none (λ (t : Term). (c : ConstId) × (c.n < 0) × (t ≡ constant_term c)) es table;
+constant-same : (n : ℕ) (c : ConstId) → constant_term (record { n = n }) ≡ constant_term c → n ≡ c.n
+constant-same n c e = ap (λ (r : ConstId). r.n) (go (ap (λ (u : Term). u.base) e))
+  where
+    go : Constant (record { n = n }) ≡ Constant c → record { n = n } ≡ c
+    go h = cc
+
+constant-no_undef : (c : ConstId) (s : SortId) → constant_term c ≡ undef_term s → ⊥
+constant-no_undef c s e = go (ap (λ (u : Term). u.base) e)
+  where
+    go : Constant c ≡ Undef s → ⊥
+    go h = cc
+
+pub adds-no_constants : (sorts : ℕ) (es : List Entry) → AddsUndefs sorts es → AddsConstants sorts 0 es es
+adds-no_constants sorts es undefs = record {
+  long = omega (arith, undefs.long);
+  adds = adds-none (λ (t : Term). (c : ConstId) × (c.n < 0) × (t ≡ constant_term c)) es undefs.adds.table;
   constants = λ c lt. absurd (omega (arith, lt));
 }
 
 -- one constant more
-pub adds-constant : (n i : ℕ) (old mid new : List Entry) → AddsConstants n old mid → AddsEntry mid new (Root (Constant (record { n = n }))) i → AddsConstants (n + 1) old new
-adds-constant n i old mid new before more = record {
-  adds = adds-then (λ (t : Term). (c : ConstId) × (c.n < n) × (t ≡ constant_term c)) (λ (t : Term). t ≡ constant_term (record { n = n }))
-      (λ (t : Term). (c : ConstId) × (c.n < n + 1) × (t ≡ constant_term c))
-      (λ t h. (h.0, omega (arith, h.1), h.2)) (λ t h. (record { n = n }, omega arith, h)) old mid new before.adds more.adds;
-  constants = λ c lt. ⊎_elim (λ (h : c.n < n). let k = before.constants c h in (k.0, more.adds.grows k.0 (Root (Constant c)) k.1))
-      (λ (h : c.n ≡ n). (i, more.here ∙ ap (λ (m : ℕ). Some (Root (Constant (record { n = m })))) (sym h))) (sort_cases c.n n lt);
+pub adds-constant : (sorts n : ℕ) (old es : List Entry) → AddsUndefs sorts old → AddsConstants sorts n old es
+    → AddsConstants sorts (n + 1) old (es ++ Root (Constant (record { n = n })) ∷ [])
+adds-constant sorts n old es undefs before =
+    let new : ConstId = record { n = n } in
+    let e : Entry = Root (Constant new) in
+    let fresh : (i : ℕ) → slice_get es i ≡ Some e → ⊥ = λ i is.
+    ⊎_elim
+    (λ (h : IsAt old i (constant_term new)).
+    ⊎_elim (λ (none : IsAt [] i (constant_term new)). at-nothing i (constant_term new) none)
+    (λ (u : (s : SortId) × (s.n < sorts) × (constant_term new ≡ undef_term s)). constant-no_undef new u.0 u.2)
+    (undefs.adds.only i (constant_term new) h))
+    (λ (h : (c : ConstId) × (c.n < n) × (constant_term new ≡ constant_term c)). absurd (omega (arith, h.1, constant-same n h.0 h.2)))
+    (before.adds.only i (constant_term new) (entry-at es before.adds.table i e is)) in
+    let more = adds-pushed es before.adds.table e tt fresh in
+    record {
+      long = omega (arith, length_push es e, before.long);
+      adds = adds-then (λ (t : Term). (c : ConstId) × (c.n < n) × (t ≡ constant_term c)) (λ (t : Term). t ≡ constant_term new)
+          (λ (t : Term). (c : ConstId) × (c.n < n + 1) × (t ≡ constant_term c))
+          (λ t h. (h.0, omega (arith, h.1), h.2)) (λ t h. (new, omega arith, h)) old es (es ++ e ∷ []) before.adds more.adds;
+      constants = λ c lt. ⊎_elim (λ (h : c.n < n). grows-push es e (Root (Constant c)) (sorts + c.n) (before.constants c h))
+          (λ (h : c.n ≡ n).
+          let place : length es ≡ sorts + c.n = omega (arith, before.long, h) in
+          subst (λ (m : ℕ). slice_get (es ++ e ∷ []) m ≡ Some (Root (Constant c))) place
+          (pushed-at es e ∙ ap (λ (m : ℕ). Some (Root (Constant (record { n = m })))) (sym h))) (sort_cases c.n n lt);
+    }
+
+-- undefs and constants keep their numbers
+pub fixed-kept : (schema : SchemaParts) (old new : List Entry) → HasFixed schema old → Grows old new → HasFixed schema new
+fixed-kept schema old new fixed grows = record {
+  undefs = λ s lt. grows s.n (Root (Undef s)) (fixed.undefs s lt);
+  constants = λ c lt. grows (schema.sorts + c.n) (Root (Constant c)) (fixed.constants c lt);
 }
+
+-- the undefs and the constants that were put first
+pub fixed-made : (schema : SchemaParts) (one two : List Entry) → AddsUndefs schema.sorts one
+    → AddsConstants schema.sorts (length schema.constants) one two → HasFixed schema two
+fixed-made schema one two undefs constants = record {
+  undefs = λ s lt. constants.adds.grows s.n (Root (Undef s)) (undefs.undefs s lt);
+  constants = constants.constants;
+}
+
+-- an undef or a constant is there already
+pub adds-fixed : (schema : SchemaParts) (es : List Entry) → IsTable es → HasFixed schema es → (b : Base) (i : ℕ) → IsFixedPlace schema b i
+    → AddsEntry es es (Root b) i
+adds-fixed schema es table fixed (Var v) i h = absurd h
+adds-fixed schema es table fixed (Cell row column) i h = absurd h
+adds-fixed schema es table fixed (Constant c) i h = adds-known es table (Root (Constant c)) i (rw h.1 (fixed.constants c h.0))
+adds-fixed schema es table fixed (Undef s) i h = adds-known es table (Root (Undef s)) i (rw h.1 (fixed.undefs s h.0))
+adds-fixed schema es table fixed (Param p) i h = absurd h
 
 -- the whole table
 pub made-table : (schema : SchemaParts) (literals : List Literal) (one two three : List Entry) (pairs : List Pair) → AddsUndefs schema.sorts one
-    → AddsConstants (length schema.constants) one two → AddsFacts two three literals pairs → IsTableOf schema literals (record { entries = three; sides = pairs })
+    → AddsConstants schema.sorts (length schema.constants) one two → AddsFacts two three literals pairs → IsTableOf schema literals (record { entries = three; sides = pairs })
 made-table schema literals one two three pairs undefs constants said = record {
   table = said.adds.table;
   known = λ i t at.
@@ -154,7 +203,7 @@ made-table schema literals one two three pairs undefs constants said = record {
       (constants.adds.only i t h))
       (λ (h : IsPartOf literals t). of_literals {p = t} h.0 h.1 h.2)
       (said.adds.only i t at);
-  undefs = λ s lt. said.adds.grows s.n (Root (Undef s)) (constants.adds.grows s.n (Root (Undef s)) (undefs.undefs s lt));
-  constants = λ c lt. let k = constants.constants c lt in (k.0, said.adds.grows k.0 (Root (Constant c)) k.1);
+  undefs = (fixed-kept schema two three (fixed-made schema one two undefs constants) said.adds.grows).undefs;
+  constants = (fixed-kept schema two three (fixed-made schema one two undefs constants) said.adds.grows).constants;
   numbers = said.numbers;
 }

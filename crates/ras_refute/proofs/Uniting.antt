@@ -47,6 +47,10 @@ joined_cases : (x y p q : ℕ) → cond (nat_eq x (max p q)) (min p q) x ≡ con
     → (x ≡ y) ⊎ (((x ≡ p) × (y ≡ q)) ⊎ ((x ≡ q) × (y ≡ p)))
 joined_cases x y p q e = grind arith
 
+-- no number gets larger
+lower_cases : (x p q : ℕ) → cond (nat_eq x (max p q)) (min p q) x ≤ x
+lower_cases x p q = grind arith
+
 -- the larger of two different numbers is one of them
 larger_cases : (p q : ℕ) → p ≢ q → (min p q < max p q) × ((p ≡ max p q) ⊎ (q ≡ max p q))
 larger_cases p q differ = grind arith
@@ -58,6 +62,7 @@ relabelled-unites classes a b lt_a lt_b =
     let to : ℕ = min (class classes a) (class classes b) in
     record {
       as_many = length-relabelled from to classes;
+      lower = λ i lt. rw (class-relabelled from to classes i lt) (lower_cases (class classes i) (class classes a) (class classes b));
       smaller = λ differ. let l = larger_cases (class classes a) (class classes b) differ in
           ⊎_elim (λ (h : class classes a ≡ from). sum-relabelled from to classes a lt_a h l.0) (λ (h : class classes b ≡ from). sum-relabelled from to classes b lt_b h l.0) l.1;
       only = λ i j lt_i lt_j e. joined_cases (class classes i) (class classes j) (class classes a) (class classes b)

@@ -7,8 +7,9 @@ use Rattle.ras_logic.specs.declared.literal.Literal.{Literal}
 use Rattle.ras_logic.specs.declared.literal.Literal.TheVariants.{Equal}
 use Rattle.ras_logic.specs.Schemas.{SchemaParts}
 use Rattle.ras_logic.specs.Clashes.{sides, IsTerm, of_literals, a_constant, an_undef, Together, reflexive, symmetric, transitive, stated, same_images, image_of_undef, only_undef, stated_apart, two_constants, constant_undef, FactsClash}
-use Rattle.ras_refute.specs.Sides.{left_of, right_of}
-use Rattle.ras_refute.proofs.Tables.{contains_cases, contains-here, contains-later}
+use Rattle.ras_logic.specs.Literals.{left_of, right_of}
+use Rattle.ras_logic.proofs.Elements.{contains_cases, contains-here, contains-later}
+use Rattle.ras_logic.proofs.MoreFacts.{clash-more}
 
 -- a side of a literal of the list
 record IsSide (ls : List Literal) (t : Term) : Type 0 where
@@ -46,20 +47,9 @@ module _ (schema : SchemaParts) (less more : List Literal) (wider : (l : Literal
   term-wider (a_constant c lt) = a_constant c lt
   term-wider (an_undef s lt) = an_undef s lt
 
-  together-wider : {s t : Term} → Together schema less (Contains less) s t → Together schema more (Contains more) s t
-  together-wider (reflexive t known) = reflexive t (term-wider known)
-  together-wider (symmetric s t r) = symmetric s t (together-wider r)
-  together-wider (transitive r s t p q) = transitive r s t (together-wider p) (together-wider q)
-  together-wider (stated s t inside) = stated s t (wider (Equal s t true) inside)
-  together-wider (same_images s t f r one other) = same_images s t f (together-wider r) (term-wider one) (term-wider other)
-  together-wider (image_of_undef t f d known r one) = image_of_undef t f d known (together-wider r) (term-wider one)
-  together-wider (only_undef t f d known total r) = only_undef t f d known total (together-wider r)
-
   -- more facts clash where fewer do
   pub clash-wider : FactsClash schema less → FactsClash schema more
-  clash-wider (stated_apart s t inside r) = stated_apart s t (wider (Equal s t false) inside) (together-wider r)
-  clash-wider (two_constants c e differ r) = two_constants c e differ (together-wider r)
-  clash-wider (constant_undef c s r) = constant_undef c s (together-wider r)
+  clash-wider clash = clash-more schema less more (λ t known. term-wider known) (Contains less) (Contains more) wider clash
 
 contains-reverse : {X : Type 0} (xs : List X) (x : X) → Contains xs x → Contains (reverse xs) x
 contains-reverse xs x h =

@@ -1,5 +1,5 @@
 -- Classes of the terms of a table, and what the facts and the rules ask of them.
-use Rattle.std.specs.Prelude.{◌≡◌, ◌≢◌, ℕ, ◌<◌, ◌⊎◌, Bool, true, not, List, length, get_or, slice_get, Some, sum, map, nat_eq, Contains, if◌then◌else◌}
+use Rattle.std.specs.Prelude.{◌≡◌, ◌≢◌, ℕ, ◌<◌, ◌≤◌, ◌⊎◌, Bool, true, not, List, length, get_or, slice_get, Some, sum, map, nat_eq, Contains, if◌then◌else◌}
 use Rattle.ras_logic.specs.declared.ids.FunId.{FunId}
 use Rattle.ras_logic.specs.declared.function.FunDecl.{FunDecl}
 use Rattle.ras_logic.specs.declared.term.Term.{Term}
@@ -10,7 +10,7 @@ use Rattle.ras_refute.specs.declared.entry.Entry.{Entry}
 use Rattle.ras_refute.specs.declared.entry.Entry.TheVariants.{Image}
 use Rattle.ras_refute.specs.declared.entry.Pair.{Pair}
 use Rattle.ras_refute.specs.declared.table.Table.{Table}
-use Rattle.ras_refute.specs.Sides.{same_of}
+use Rattle.ras_logic.specs.Literals.{same_of}
 use Rattle.ras_refute.specs.Tables.{IsAt, IsTableOf}
 
 -- the number of a term's class
@@ -29,6 +29,7 @@ AreJoined classes a b i j =
 -- no classes but those of a and b became one, and where these two differed, the sum of the class numbers fell
 pub record Unites (old new : List ℕ) (a b : ℕ) : Type 0 where
   pub as_many : length new ≡ length old
+  pub lower : (i : ℕ) → i < length old → class new i ≤ class old i
   pub smaller : class old a ≢ class old b → sum new < sum old
   pub only : (i j : ℕ) → i < length old → j < length old → class new i ≡ class new j → AreJoined old a b i j
 
@@ -36,12 +37,12 @@ abbrev pub IsImage : List Entry → ℕ → ℕ → FunId → Type 0
 IsImage es i of f = slice_get es i ≡ Some (Image of f)
 
 -- each fact of this kind, those that say the same or those that say not the same, has its sides in one class or in two as it says
-abbrev pub MeetFacts : List Literal → List Pair → List ℕ → Bool → Type 0
-MeetFacts facts sides classes same = (k : ℕ) (fact : Literal) (pair : Pair) → slice_get facts k ≡ Some fact → slice_get sides k ≡ Some pair → same_of fact ≡ same
+abbrev pub RespectFacts : List Literal → List Pair → List ℕ → Bool → Type 0
+RespectFacts facts sides classes same = (k : ℕ) (fact : Literal) (pair : Pair) → slice_get facts k ≡ Some fact → slice_get sides k ≡ Some pair → same_of fact ≡ same
     → nat_eq (class classes pair.left) (class classes pair.right) ≡ same
 
 -- the sides of a fact of this kind, whose classes are not as it says
-pub record IsUnmet (facts : List Literal) (sides : List Pair) (classes : List ℕ) (same : Bool) (pair : Pair) : Type 0 where
+pub record IsViolated (facts : List Literal) (sides : List Pair) (classes : List ℕ) (same : Bool) (pair : Pair) : Type 0 where
   pub place : ℕ
   pub fact : Literal
   pub known : slice_get facts place ≡ Some fact
@@ -50,25 +51,25 @@ pub record IsUnmet (facts : List Literal) (sides : List Pair) (classes : List �
   pub differ : nat_eq (class classes pair.left) (class classes pair.right) ≡ not same
 
 -- the images by one function of terms of one class are in one class
-abbrev pub MeetImages : List Entry → List ℕ → ℕ → ℕ → FunId → Type 0
-MeetImages es classes i of f = (j of2 : ℕ) → IsImage es j of2 f → class classes of ≡ class classes of2 → class classes i ≡ class classes j
+abbrev pub RespectImages : List Entry → List ℕ → ℕ → ℕ → FunId → Type 0
+RespectImages es classes i of f = (j of2 : ℕ) → IsImage es j of2 f → class classes of ≡ class classes of2 → class classes i ≡ class classes j
 
 -- an image of undef is undef, and the argument of an undef image by a total function
-pub record MeetUndef (schema : SchemaParts) (classes : List ℕ) (i of : ℕ) (f : FunId) : Type 0 where
+pub record RespectUndef (schema : SchemaParts) (classes : List ℕ) (i of : ℕ) (f : FunId) : Type 0 where
   pub image : (d : FunDecl) → slice_get schema.functions f.n ≡ Some d → class classes of ≡ class classes d.source.n → class classes i ≡ class classes d.target.n
   pub argument : (d : FunDecl) → slice_get schema.functions f.n ≡ Some d → d.total ≡ true → class classes i ≡ class classes d.target.n → class classes of ≡ class classes d.source.n
 
 -- no rule asks for more at the term of that number
-abbrev pub MeetRulesAt : SchemaParts → List Entry → List ℕ → ℕ → Type 0
-MeetRulesAt schema es classes i = (of : ℕ) (f : FunId) → IsImage es i of f → MeetUndef schema classes i of f × MeetImages es classes i of f
+abbrev pub RespectRulesAt : SchemaParts → List Entry → List ℕ → ℕ → Type 0
+RespectRulesAt schema es classes i = (of : ℕ) (f : FunId) → IsImage es i of f → RespectUndef schema classes i of f × RespectImages es classes i of f
 
 -- no fact and no rule asks for more
 pub record AreClosed (schema : SchemaParts) (facts : List Literal) (t : Table) (classes : List ℕ) : Type 0 where
-  pub stated : MeetFacts facts t.sides classes true
-  pub rules : (i : ℕ) → i < length t.entries → MeetRulesAt schema t.entries classes i
+  pub stated : RespectFacts facts t.sides classes true
+  pub rules : (i : ℕ) → i < length t.entries → RespectRulesAt schema t.entries classes i
 
 -- the image by the same function of a term of the same class, in another class
-pub record IsUnlike (es : List Entry) (classes : List ℕ) (i of : ℕ) (f : FunId) (j : ℕ) : Type 0 where
+pub record IsCongruentImage (es : List Entry) (classes : List ℕ) (i of : ℕ) (f : FunId) (j : ℕ) : Type 0 where
   pub argument : ℕ
   pub image : IsImage es j argument f
   pub arguments : class classes of ≡ class classes argument
@@ -99,6 +100,7 @@ AreSound schema facts es classes = (i j : ℕ) (s u : Term) → IsAt es i s → 
 pub record ArePartial (schema : SchemaParts) (facts : List Literal) (t : Table) (classes : List ℕ) : Type 0 where
   pub table : IsTableOf schema facts t
   pub as_many : length classes ≡ length t.entries
+  pub low : (i : ℕ) → i < length t.entries → class classes i ≤ i
   pub sound : AreSound schema facts t.entries classes
 
 -- the classes of the least relation

@@ -1,4 +1,3 @@
-pub mod Sides
 pub mod Tables
 pub mod Classes
 pub mod Clashing

@@ -1,9 +1,10 @@
 -- Tables of terms: what the entries stand for.
-use Rattle.std.specs.Prelude.{◌≡◌, ℕ, ◌<◌, ◌⊎◌, List, [], ◌∷◌, ◌++◌, length, get_or, slice_get, Some, Contains}
+use Rattle.std.specs.Prelude.{◌≡◌, ℕ, ◌+◌, ◌<◌, ◌⊎◌, List, [], ◌∷◌, ◌++◌, length, get_or, slice_get, Some, Contains}
 use Rattle.std.specs.List.{AllZip}
 use Rattle.ras_logic.specs.declared.ids.FunId.{FunId}
 use Rattle.ras_logic.specs.declared.ids.SortId.{SortId}
 use Rattle.ras_logic.specs.declared.ids.ConstId.{ConstId}
+use Rattle.ras_logic.specs.declared.term.Base.{Base}
 use Rattle.ras_logic.specs.declared.term.Base.TheVariants.{Constant, Undef, Param}
 use Rattle.ras_logic.specs.declared.term.Term.{Term}
 use Rattle.ras_logic.specs.declared.literal.Literal.{Literal}
@@ -92,22 +93,35 @@ HasUndefs sorts es = (s : SortId) → s.n < sorts → slice_get es s.n ≡ Some 
 
 -- all that was added are the undefs of these sorts, and each has the number of its sort
 pub record AddsUndefs (sorts : ℕ) (new : List Entry) : Type 0 where
+  pub long : length new ≡ sorts
   pub adds : Adds (λ (t : Term). (s : SortId) × (s.n < sorts) × (t ≡ undef_term s)) [] new
   pub undefs : HasUndefs sorts new
 
--- each of the constants has a number
-abbrev pub HasConstants : ℕ → List Entry → Type 0
-HasConstants count es = (c : ConstId) → c.n < count → (i : ℕ) × (slice_get es i ≡ Some (Root (Constant c)))
+-- each of the constants has a number behind the sorts'
+abbrev pub HasConstants : ℕ → ℕ → List Entry → Type 0
+HasConstants sorts count es = (c : ConstId) → c.n < count → slice_get es (sorts + c.n) ≡ Some (Root (Constant c))
 
--- only these constants were added, and each has a number
-pub record AddsConstants (count : ℕ) (old new : List Entry) : Type 0 where
+-- all that was added are these constants, each in its order behind the undefs
+pub record AddsConstants (sorts count : ℕ) (old new : List Entry) : Type 0 where
+  pub long : length new ≡ sorts + count
   pub adds : Adds (λ (t : Term). (c : ConstId) × (c.n < count) × (t ≡ constant_term c)) old new
-  pub constants : HasConstants count new
+  pub constants : HasConstants sorts count new
+
+-- every sort's undef and each constant of the schema has its number
+pub record HasFixed (schema : SchemaParts) (es : List Entry) : Type 0 where
+  pub undefs : HasUndefs schema.sorts es
+  pub constants : HasConstants schema.sorts (length schema.constants) es
+
+-- the number of an undef or a constant of the schema
+abbrev pub IsFixedPlace : SchemaParts → Base → ℕ → Type 0
+IsFixedPlace schema (Undef s) i = (s.n < schema.sorts) × (i ≡ s.n)
+IsFixedPlace schema (Constant c) i = (c.n < length schema.constants) × (i ≡ schema.sorts + c.n)
+IsFixedPlace schema _ i = ⊥
 
 -- the terms of the facts and no others, and the numbers of the facts' sides
 pub record IsTableOf (schema : SchemaParts) (facts : List Literal) (t : Table) : Type 0 where
   pub table : IsTable t.entries
   pub known : (i : ℕ) (u : Term) → IsAt t.entries i u → IsTerm schema facts u
   pub undefs : HasUndefs schema.sorts t.entries
-  pub constants : HasConstants (length schema.constants) t.entries
+  pub constants : HasConstants schema.sorts (length schema.constants) t.entries
   pub numbers : AreAllSides t.entries facts t.sides

@@ -1,11 +1,7 @@
-ghost use Rattle.std.specs.Prelude.{◌≡◌, ◌↔◌, ◌<◌, ◌^◌, ℕ, length, slice_get, get_or, Some, IsTrue, IfOk, All};
-ghost use Rattle.ras_logic.specs.Terms.{base_term, replace_term};
-ghost use Rattle.ras_logic.specs.Formulas.{negated, replace};
-ghost use Rattle.ras_logic.specs.Refutations.{AreRowsOf, chosen_row};
+ghost use Rattle.std.specs.Prelude.{◌≡◌, ◌↔◌, ◌<◌, ℕ, length, slice_get, get_or, Some, IsTrue};
+ghost use Rattle.ras_logic.specs.Refutations.{AreRowsOf};
 
-use crate::sides::{left, right, says_same};
-use ras_logic::{Base, Literal, Plain, RelId, Term};
-use std::alloc::{AllocError, Global};
+use ras_logic::RelId;
 
 /// Whether a row is one of those named, of the relation.
 fn is_row_of(rows: &[RelId], relation: RelId, row: u32) -> bool
@@ -43,45 +39,4 @@ pub fn are_rows_of(premise: &[RelId], formula: &[RelId], chosen: &[u32]) -> bool
         }
     }
     true
-}
-
-/// The base with the formula's row replaced by the chosen one, or by row 0 where the formula has no such row.
-fn chosen_base(base: Base, chosen: &[u32]) -> Base
-    requires { All (λ k. k < 2 ^ 16) chosen.now }
-    ensures { base_term result ≡ chosen_row chosen.now base }
-{
-    match base {
-        Base::Cell { row, column } => Base::Cell {
-            row: chosen.get(row as usize).copied().unwrap_or(0) as u16,
-            column,
-        },
-        Base::Var(v) => Base::Var(v),
-        Base::Constant(c) => Base::Constant(c),
-        Base::Undef(s) => Base::Undef(s),
-        Base::Param(p) => Base::Param(p),
-    }
-}
-
-/// The term with the formula's rows replaced by the chosen ones.
-fn chosen_term(alloc: Global, term: &Term, chosen: &[u32]) -> Result<Term, AllocError>
-    requires { All (λ k. k < 2 ^ 16) chosen.now }
-    ensures { IfOk result (λ t. t ≡ replace_term (chosen_row chosen.now) term.now) }
-{
-    let path = term.path.copy(alloc)?;
-    Ok(Term {
-        base: chosen_base(term.base, chosen),
-        path,
-    })
-}
-
-/// The opposite of a formula's literal, with its rows replaced by the chosen ones.
-pub fn opposite(alloc: Global, literal: &Literal, chosen: &[u32]) -> Result<Literal, AllocError>
-    requires { All (λ k. k < 2 ^ 16) chosen.now }
-    ensures { IfOk result (λ l. l ≡ negated (replace (chosen_row chosen.now) literal.now)) }
-{
-    Ok(Literal::Equal {
-        left: chosen_term(alloc, left(literal), chosen)?,
-        right: chosen_term(alloc, right(literal), chosen)?,
-        same: !says_same(literal),
-    })
 }

@@ -1,59 +1,89 @@
-ghost use Rattle.std.specs.Prelude.{◌≡◌, ◌↔◌, ◌<◌, ◌⊎◌, length, IsTrue, IfOk};
+ghost use Rattle.std.specs.Prelude.{◌≡◌, ◌↔◌, ◌<◌, ◌+◌, ◌⊎◌, length, slice_get, Some, IsTrue, IfOk};
+ghost use Rattle.std.specs.Bool.{OnTrue, OnFalse};
 ghost use Rattle.ras_logic.specs.Clashes.{FactsClash};
 ghost use Rattle.ras_refute.specs.Tables.{AreAllSides};
-ghost use Rattle.ras_refute.specs.Clashing.{HasBroken, HasOpposedAt, HasOpposed};
+ghost use Rattle.ras_refute.specs.Clashing.{HasViolated, HasDistinct, AreBounded, AreNamed};
 
-use crate::entry::are_opposed;
-use crate::facts::unmet_fact;
+use crate::entry::{Entry, Rigid, are_same, as_rigid};
+use crate::facts::find_violated_fact;
 use crate::rules::least_classes;
 use crate::table::Table;
 use ras_logic::{Literal, Schema};
 use std::alloc::{AllocError, Global};
 
 /// Whether both sides of a fact that says not the same are in one class.
-fn has_broken(facts: &[Literal], table: &Table, classes: &[u32]) -> bool
+fn has_violated(facts: &[Literal], table: &Table, classes: &[u32]) -> bool
     requires numbers { AreAllSides table.now.entries facts.now table.now.sides }
     requires as_many { length classes.now ≡ length table.now.entries }
-    ensures { IsTrue result ↔ HasBroken facts.now table.now.sides classes.now }
+    ensures { IsTrue result ↔ HasViolated facts.now table.now.sides classes.now }
 {
-    unmet_fact(facts, table, classes, false).is_some()
+    find_violated_fact(facts, table, classes, false).is_some()
 }
 
-/// Whether the class of the term `i` has a term that it is opposed to.
-fn has_opposed_at(table: &Table, classes: &[u32], i: usize) -> bool
-    requires as_many { length classes.now ≡ length table.now.entries }
-    requires within { i < length table.now.entries }
-    ensures { IsTrue result ↔ HasOpposedAt table.now.entries classes.now i }
+/// Notes an undef or a constant as that of its class; whether another one was noted for the class.
+fn note_rigid(
+    table: &Table,
+    classes: &[u32],
+    named: &mut [Option<Rigid>],
+    i: usize,
+    entry: Entry,
+) -> bool
+    requires bounded { AreBounded table.now.entries classes.now }
+    requires here { slice_get table.now.entries i ≡ Some entry }
+    requires named { AreNamed table.now.entries classes.now named.old i }
+    ensures distinct { OnTrue result (HasDistinct table.now.entries classes.now) }
+    ensures named { OnFalse result (AreNamed table.now.entries classes.now named.new (i + 1)) }
 {
-    let entries = table.entries.as_slice();
-    for j in 0..entries.len() {
-        if classes[i] == classes[j] && are_opposed(entries[i], entries[j]) {
-            return true;
+    // only the contract speaks of it
+    let _table = table;
+    let Some(rigid) = as_rigid(entry) else {
+        return false;
+    };
+    let class = classes[i] as usize;
+    match named[class] {
+        None => {
+            named[class] = Some(rigid);
+            false
+        }
+        Some(other) => {
+            if are_same(other, rigid) {
+                return false;
+            }
+            true
         }
     }
-    false
 }
 
-/// Whether two opposed terms are in one class.
-fn has_opposed(table: &Table, classes: &[u32]) -> bool
-    requires { length classes.now ≡ length table.now.entries }
-    ensures { IsTrue result ↔ HasOpposed table.now.entries classes.now }
+/// Whether two distinct constants, or a constant and undef, are in one class. For each class one of them is noted, so that
+/// the look over the terms compares no two of them that aren't in one class.
+fn has_distinct(alloc: Global, table: &Table, classes: &[u32]) -> Result<bool, AllocError>
+    requires { AreBounded table.now.entries classes.now }
+    ensures { IfOk result (λ b. IsTrue b ↔ HasDistinct table.now.entries classes.now) }
 {
-    for i in 0..table.entries.len() {
-        if has_opposed_at(table, classes, i) {
-            return true;
+    let mut named = vec![in alloc; None; classes.len()]?;
+    for (i, entry) in table.entries.as_slice().iter().enumerate() {
+        if note_rigid(table, classes, &mut named, i, *entry) {
+            return Ok(true);
         }
     }
-    false
+    Ok(false)
 }
 
 /// Whether facts clash in classes.
-fn has_clash(facts: &[Literal], table: &Table, classes: &[u32]) -> bool
+fn has_clash(
+    alloc: Global,
+    facts: &[Literal],
+    table: &Table,
+    classes: &[u32],
+) -> Result<bool, AllocError>
     requires numbers { AreAllSides table.now.entries facts.now table.now.sides }
-    requires as_many { length classes.now ≡ length table.now.entries }
-    ensures { IsTrue result ↔ (HasBroken facts.now table.now.sides classes.now ⊎ HasOpposed table.now.entries classes.now) }
+    requires bounded { AreBounded table.now.entries classes.now }
+    ensures { IfOk result (λ b. IsTrue b ↔ (HasViolated facts.now table.now.sides classes.now ⊎ HasDistinct table.now.entries classes.now)) }
 {
-    has_broken(facts, table, classes) || has_opposed(table, classes)
+    if has_violated(facts, table, classes) {
+        return Ok(true);
+    }
+    has_distinct(alloc, table, classes)
 }
 
 /// Whether facts clash. The terms are both sides of each fact with their prefixes, each constant, and each sort's undef. In
@@ -66,5 +96,5 @@ pub fn clashes(alloc: Global, schema: &Schema, facts: &[Literal]) -> Result<bool
     schema.known();
     let table = Table::new(alloc, schema, facts)?;
     let classes = least_classes(alloc, schema, facts, &table)?;
-    Ok(has_clash(facts, &table, &classes))
+    has_clash(alloc, facts, &table, &classes)
 }

@@ -15,7 +15,6 @@ mod entry;
 mod facts;
 mod law;
 mod rules;
-mod sides;
 mod table;
 mod tree_fault;
 mod walk;

@@ -2,28 +2,34 @@ ghost use Rattle.std.specs.Prelude.{◌≡◌, ◌<◌, ◌≤◌, ℕ, List, le
 ghost use Rattle.ras_logic.specs.declared.literal.Literal.{Literal};
 ghost use Rattle.ras_logic.specs.Schemas.{SchemaParts, HasSorts};
 ghost use Rattle.ras_refute.specs.Tables.{IsTable, HasUndefs, IsTableOf};
-ghost use Rattle.ras_refute.specs.Classes.{IsImage, MeetImages, MeetUndef, MeetRulesAt, AreClosed, IsUnlike, IsDue, ArePartial, AreLeast};
+ghost use Rattle.ras_refute.specs.Classes.{IsImage, RespectImages, RespectUndef, RespectRulesAt, AreClosed, IsCongruentImage, IsDue, ArePartial, AreLeast};
 
 use crate::classes::{separate, unite};
 use crate::entry::{Entry, Pair};
-use crate::facts::unmet_fact;
+use crate::facts::find_violated_fact;
 use crate::table::Table;
 use ras_logic::{FunDecl, FunId, Literal, Schema};
 use std::alloc::{AllocError, Global};
 
 /// Two terms of different classes that belong in one, and the term at which a look over all terms goes on.
 #[derive(Clone, Copy, Debug)]
-struct Unmet {
+struct Pending {
     pair: Pair,
     at: u32,
 }
 
 /// The image by the same function of a term of the same class, in another class.
-fn unlike_image(table: &Table, classes: &[u32], i: u32, of: u32, function: FunId) -> Option<u32>
+fn find_congruent_image(
+    table: &Table,
+    classes: &[u32],
+    i: u32,
+    of: u32,
+    function: FunId,
+) -> Option<u32>
     requires table { IsTable table.now.entries }
     requires as_many { length classes.now ≡ length table.now.entries }
     requires image { IsImage table.now.entries i of function }
-    ensures { MatchOption result (MeetImages table.now.entries classes.now i of function) (IsUnlike table.now.entries classes.now i of function) }
+    ensures { MatchOption result (RespectImages table.now.entries classes.now i of function) (IsCongruentImage table.now.entries classes.now i of function) }
 {
     let entries = table.entries.as_slice();
     for j in 0..entries.len() {
@@ -53,7 +59,7 @@ fn declared(schema: &Schema, function: FunId) -> Option<FunDecl>
 }
 
 /// Two terms of different classes that a rule for undef puts together.
-fn unmet_undef(
+fn find_pending_undef(
     schema: &Schema,
     table: &Table,
     classes: &[u32],
@@ -65,7 +71,7 @@ fn unmet_undef(
     requires undefs { HasUndefs schema.now.sorts table.now.entries }
     requires as_many { length classes.now ≡ length table.now.entries }
     requires image { IsImage table.now.entries i of function }
-    ensures { MatchOption result (MeetUndef schema.now classes.now i of function) (λ pair. (facts : List Literal) → IsDue schema.now facts table.now classes.now pair) }
+    ensures { MatchOption result (RespectUndef schema.now classes.now i of function) (λ pair. (facts : List Literal) → IsDue schema.now facts table.now classes.now pair) }
 {
     let decl = declared(schema, function)?;
     let source = decl.source.n as u32;
@@ -87,20 +93,20 @@ fn unmet_undef(
 }
 
 /// Two terms of different classes that a rule puts together for the term `i`.
-fn unmet_rule(schema: &Schema, table: &Table, classes: &[u32], i: u32) -> Option<Pair>
+fn find_pending_at(schema: &Schema, table: &Table, classes: &[u32], i: u32) -> Option<Pair>
     requires table { IsTable table.now.entries }
     requires undefs { HasUndefs schema.now.sorts table.now.entries }
     requires as_many { length classes.now ≡ length table.now.entries }
     requires within { i < length table.now.entries }
-    ensures { MatchOption result (MeetRulesAt schema.now table.now.entries classes.now i) (λ pair. (facts : List Literal) → IsDue schema.now facts table.now classes.now pair) }
+    ensures { MatchOption result (RespectRulesAt schema.now table.now.entries classes.now i) (λ pair. (facts : List Literal) → IsDue schema.now facts table.now classes.now pair) }
 {
     match table.entries.as_slice()[i as usize] {
         Entry::Root(_) => None,
         Entry::Image { of, function } => {
-            if let Some(pair) = unmet_undef(schema, table, classes, i, of, function) {
+            if let Some(pair) = find_pending_undef(schema, table, classes, i, of, function) {
                 return Some(pair);
             }
-            let other = unlike_image(table, classes, i, of, function)?;
+            let other = find_congruent_image(table, classes, i, of, function)?;
             Some(Pair {
                 left: i,
                 right: other,
@@ -110,48 +116,48 @@ fn unmet_rule(schema: &Schema, table: &Table, classes: &[u32], i: u32) -> Option
 }
 
 /// Two terms of different classes that a rule puts together for one of the terms from `first` to before `end`.
-fn unmet_among(
+fn find_pending_among(
     schema: &Schema,
     table: &Table,
     classes: &[u32],
     first: u32,
     end: u32,
-) -> Option<Unmet>
+) -> Option<Pending>
     requires table { IsTable table.now.entries }
     requires undefs { HasUndefs schema.now.sorts table.now.entries }
     requires as_many { length classes.now ≡ length table.now.entries }
     requires end { end ≤ length table.now.entries }
-    ensures { MatchOption result ((i : ℕ) → i < end → first ≤ i → MeetRulesAt schema.now table.now.entries classes.now i) (λ unmet. (unmet.at < end) × ((facts : List Literal) → IsDue schema.now facts table.now classes.now unmet.pair)) }
+    ensures { MatchOption result ((i : ℕ) → i < end → first ≤ i → RespectRulesAt schema.now table.now.entries classes.now i) (λ pending. (pending.at < end) × ((facts : List Literal) → IsDue schema.now facts table.now classes.now pending.pair)) }
 {
     for at in first..end {
-        if let Some(pair) = unmet_rule(schema, table, classes, at) {
-            return Some(Unmet { pair, at });
+        if let Some(pair) = find_pending_at(schema, table, classes, at) {
+            return Some(Pending { pair, at });
         }
     }
     None
 }
 
 /// Two terms of different classes that a fact or a rule puts together. The look over the terms begins at the term `first`.
-fn next_unmet(
+fn find_pending(
     schema: &Schema,
     facts: &[Literal],
     table: &Table,
     classes: &[u32],
     first: u32,
-) -> Option<Unmet>
+) -> Option<Pending>
     requires table { IsTableOf schema.now facts.now table.now }
     requires as_many { length classes.now ≡ length table.now.entries }
     requires first { first ≤ length table.now.entries }
-    ensures { MatchOption result (AreClosed schema.now facts.now table.now classes.now) (λ unmet. (unmet.at ≤ length table.now.entries) × IsDue schema.now facts.now table.now classes.now unmet.pair) }
+    ensures { MatchOption result (AreClosed schema.now facts.now table.now classes.now) (λ pending. (pending.at ≤ length table.now.entries) × IsDue schema.now facts.now table.now classes.now pending.pair) }
 {
-    if let Some(pair) = unmet_fact(facts, table, classes, true) {
-        return Some(Unmet { pair, at: first });
+    if let Some(pair) = find_violated_fact(facts, table, classes, true) {
+        return Some(Pending { pair, at: first });
     }
     let end = table.entries.len() as u32;
-    if let Some(unmet) = unmet_among(schema, table, classes, first, end) {
-        return Some(unmet);
+    if let Some(pending) = find_pending_among(schema, table, classes, first, end) {
+        return Some(pending);
     }
-    unmet_among(schema, table, classes, 0, first)
+    find_pending_among(schema, table, classes, 0, first)
 }
 
 /// Puts classes together until no fact and no rule asks for more. Each look over the terms goes on where the last one found
@@ -162,9 +168,13 @@ fn close(schema: &Schema, facts: &[Literal], table: &Table, classes: &mut [u32])
 {
     schema.known();
     let mut first = 0;
-    while let Some(unmet) = next_unmet(schema, facts, table, classes, first) {
-        unite(classes, unmet.pair.left as usize, unmet.pair.right as usize);
-        first = unmet.at;
+    while let Some(pending) = find_pending(schema, facts, table, classes, first) {
+        unite(
+            classes,
+            pending.pair.left as usize,
+            pending.pair.right as usize,
+        );
+        first = pending.at;
     }
 }
 

@@ -1,12 +1,13 @@
-ghost use Rattle.std.specs.Prelude.{◌≡◌, ◌≤◌, ℕ, [], length, slice_get, Some, MatchOption, IfOk, OnOk};
-ghost use Rattle.ras_refute.specs.Tables.{IsTable, EntryFits, AddsEntry, AddsTerm, AddsFact, AddsFacts, AddsUndefs, AddsConstants};
+ghost use Rattle.std.specs.Prelude.{◌≡◌, ◌≤◌, ℕ, [], length, slice_get, Some, MatchOption, IfOk, IfSome, OnOk};
+ghost use Rattle.ras_refute.specs.declared.entry.Entry.TheVariants.{Root};
+ghost use Rattle.ras_refute.specs.Tables.{IsTable, HasFixed, IsFixedPlace, EntryFits, AddsEntry, AddsTerm, AddsFact, AddsFacts, AddsUndefs, AddsConstants};
 
 use crate::entry::{Entry, Pair};
-use crate::sides::{left, right};
 use ras_logic::{Base, ConstId, List, Literal, Schema, SortId, Term};
 use std::alloc::{AllocError, Global};
 
 /// The terms that facts speak of, each once and after the term of which it is an image, and for each fact its two sides.
+/// The undef of every sort and the constants come first, so that their places are known.
 #[derive(Debug, Drop)]
 pub struct Table {
     pub entries: List<Entry>,
@@ -40,12 +41,39 @@ fn place(entries: &mut List<Entry>, entry: Entry) -> Result<u32, AllocError>
     Ok(i as u32)
 }
 
+/// The number of an undef or a constant of the schema.
+fn fixed_place(schema: &Schema, base: Base) -> Option<u32>
+    ensures { IfSome result (IsFixedPlace schema.now base) }
+{
+    let sorts = schema.sort_count();
+    match base {
+        Base::Undef(s) if s.n < sorts => Some(u32::from(s.n)),
+        Base::Constant(c) if c.n < schema.constant_count() => {
+            Some(u32::from(sorts) + u32::from(c.n))
+        }
+        _ => None,
+    }
+}
+
+/// The number of a base, which is added where it is not there.
+fn place_base(schema: &Schema, entries: &mut List<Entry>, base: Base) -> Result<u32, AllocError>
+    requires table { IsTable entries.old }
+    requires fixed { HasFixed schema.now entries.old }
+    ensures { IfOk result (AddsEntry entries.old entries.new (Root base)) }
+{
+    match fixed_place(schema, base) {
+        Some(number) => Ok(number),
+        None => place(entries, Entry::Root(base)),
+    }
+}
+
 /// The number of a term, which is added with its prefixes where it is not there.
-fn place_term(entries: &mut List<Entry>, term: &Term) -> Result<u32, AllocError>
-    requires { IsTable entries.old }
+fn place_term(schema: &Schema, entries: &mut List<Entry>, term: &Term) -> Result<u32, AllocError>
+    requires table { IsTable entries.old }
+    requires fixed { HasFixed schema.now entries.old }
     ensures { IfOk result (AddsTerm entries.old entries.new term.now) }
 {
-    let mut at = place(entries, Entry::Root(term.base))?;
+    let mut at = place_base(schema, entries, term.base)?;
     for function in term.path.as_slice() {
         at = place(
             entries,
@@ -59,27 +87,34 @@ fn place_term(entries: &mut List<Entry>, term: &Term) -> Result<u32, AllocError>
 }
 
 /// The numbers of a fact's sides, which are added with their prefixes where they are not there.
-fn place_fact(entries: &mut List<Entry>, fact: &Literal) -> Result<Pair, AllocError>
-    requires { IsTable entries.old }
+fn place_fact(
+    schema: &Schema,
+    entries: &mut List<Entry>,
+    fact: &Literal,
+) -> Result<Pair, AllocError>
+    requires table { IsTable entries.old }
+    requires fixed { HasFixed schema.now entries.old }
     ensures { IfOk result (AddsFact entries.old entries.new fact.now) }
 {
-    let left = place_term(entries, left(fact))?;
-    let right = place_term(entries, right(fact))?;
+    let left = place_term(schema, entries, fact.left())?;
+    let right = place_term(schema, entries, fact.right())?;
     Ok(Pair { left, right })
 }
 
 /// The numbers of the sides of all facts.
 fn place_facts(
     alloc: Global,
+    schema: &Schema,
     entries: &mut List<Entry>,
     facts: &[Literal],
 ) -> Result<List<Pair>, AllocError>
-    requires { IsTable entries.old }
+    requires table { IsTable entries.old }
+    requires fixed { HasFixed schema.now entries.old }
     ensures { IfOk result (AddsFacts entries.old entries.new facts.now) }
 {
     let mut sides = List::new(alloc);
     for fact in facts {
-        sides.push(place_fact(entries, fact)?)?;
+        sides.push(place_fact(schema, entries, fact)?)?;
     }
     Ok(sides)
 }
@@ -95,13 +130,15 @@ fn place_undefs(entries: &mut List<Entry>, sorts: u16) -> Result<(), AllocError>
     Ok(())
 }
 
-/// Puts every constant into the table.
-fn place_constants(entries: &mut List<Entry>, count: u16) -> Result<(), AllocError>
-    requires { IsTable entries.old }
-    ensures { OnOk result (AddsConstants count entries.old entries.new) }
+/// Puts every constant behind the undefs.
+fn place_constants(entries: &mut List<Entry>, sorts: u16, count: u16) -> Result<(), AllocError>
+    requires { AddsUndefs sorts entries.old }
+    ensures { OnOk result (AddsConstants sorts count entries.old entries.new) }
 {
+    // only the contract speaks of it
+    let _sorts = sorts;
     for n in 0..count {
-        place(entries, Entry::Root(Base::Constant(ConstId { n })))?;
+        entries.push(Entry::Root(Base::Constant(ConstId { n })))?;
     }
     Ok(())
 }
@@ -115,9 +152,10 @@ impl Table {
         ensures { IfOk result (IsTableOf schema.now facts.now) }
     {
         let mut entries = List::new(alloc);
-        place_undefs(&mut entries, schema.sort_count())?;
-        place_constants(&mut entries, schema.constant_count())?;
-        let sides = place_facts(alloc, &mut entries, facts)?;
+        let sorts = schema.sort_count();
+        place_undefs(&mut entries, sorts)?;
+        place_constants(&mut entries, sorts, schema.constant_count())?;
+        let sides = place_facts(alloc, schema, &mut entries, facts)?;
         Ok(Table { entries, sides })
     }
 }

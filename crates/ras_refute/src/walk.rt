@@ -5,7 +5,7 @@ ghost use Rattle.ras_refute.specs.Faults.{IsSplitBy, IsSplitFault, IsNodeFault, 
 ghost use Rattle.ras_refute.specs.Walks.{AreOpen, EntersCase, waiting, StandsBefore, Passes};
 
 use crate::cases::Cases;
-use crate::chosen::{are_rows_of, opposite};
+use crate::chosen::are_rows_of;
 use crate::clash::clashes;
 use crate::tree_fault::{CloseError, TreeFault, TreeKind};
 use ras_logic::{Cube, Literal, Node, Rows, Schema, Shared};
@@ -18,7 +18,8 @@ fn enter_case(alloc: Global, facts: &mut Vec<Literal>, cases: Cases) -> Result<(
     ensures { OnOk result (EntersCase cases.entry facts.old.items facts.new.items) }
 {
     facts.truncate(cases.above);
-    facts.push(opposite(alloc, &cases.literals[cases.next], cases.rows)?)?;
+    let literal = cases.literals[cases.next].with_rows(alloc, cases.rows)?;
+    facts.push(literal.opposite())?;
     Ok(())
 }
 

@@ -14,8 +14,8 @@ use Rattle.ras_sat.specs.declared.open_split.OpenSplit.{OpenSplit}
 use Rattle.ras_sat.specs.Tasks.{opposites_at}
 use Rattle.ras_sat.specs.Splits.{AreOpen, instances_of}
 use Rattle.ras_sat.specs.Efforts.{effort}
-use Rattle.ras_refute.proofs.Tables.{contains-here, contains-later}
-use Rattle.ras_sat.proofs.Asserting.{contains-at}
+use Rattle.ras_logic.proofs.Elements.{contains-here, contains-later}
+use Rattle.ras_logic.proofs.Elements.{contains-at}
 
 or_true : (a b : Bool) → (a || b) ≡ true → (a ≡ true) ⊎ (b ≡ true)
 or_true true b h = inl refl

@@ -17,12 +17,13 @@ use Rattle.ras_logic.specs.Schemas.{IsSchema}
 use Rattle.ras_logic.specs.Formulas.{LiteralFits, Fits, IsCube, negated, replace}
 use Rattle.ras_logic.specs.Truth.{AllHold, holds, value}
 use Rattle.ras_logic.specs.Refutations.{AreRowsOf, chosen_row, children_facts, CloseAll, Closes}
-use Rattle.ras_logic.proofs.Clashes.{clash-none, from_known}
-use Rattle.ras_refute.proofs.Tables.{contains_cases}
+use Rattle.ras_logic.proofs.Clashes.{clash-none}
+use Rattle.ras_logic.proofs.Elements.{from_known}
+use Rattle.ras_logic.proofs.Elements.{contains_cases}
 use Rattle.ras_sat.specs.declared.instance.Instance.{Instance}
 use Rattle.ras_sat.specs.Instances.{IsFalsified, IsByInstance}
 use Rattle.ras_sat.specs.Answers.{IsEscape}
-use Rattle.ras_sat.proofs.Opposing.{opposite-fits}
+use Rattle.ras_logic.proofs.Closing.{replaced-fits}
 
 not_false : (b : Bool) → not b ≡ false → b ≡ true
 not_false true h = refl
@@ -63,7 +64,7 @@ module _ (shape : ShapeParts) (premise : Problem) (formulas : List Problem) (ins
       let child : Literal = negated (replace (chosen_row chosen) one.literal) in
       child-of Fail facts chosen f.literals one.literal inside children
       (All-cons (LiteralFits shape premise.rows premise.params) child facts
-      (opposite-fits shape premise.rows f.rows premise.params chosen rows_of one.literal (All-contains (LiteralFits shape f.rows []) f.literals one.literal literals inside)) fits)
+      (replaced-fits shape premise.rows f.rows premise.params chosen rows_of one.literal (All-contains (LiteralFits shape f.rows []) f.literals one.literal literals inside)) fits)
       (All-cons (λ (q : Literal). IsTrue (holds d v q)) child facts (negated-holds d v (replace (chosen_row chosen) one.literal) one.fails) hold)
 
   closed-fail : (nodes : List Node) (pending : List (List Literal)) → CloseAll shape.schema formulas premise.rows pending nodes → All (IsByInstance instances) nodes → AllByRecursion Fail pending

@@ -22,7 +22,7 @@ use Rattle.ras_sat.specs.Instances.{IsByInstance}
 use Rattle.ras_sat.specs.Needed.{AllNeeded}
 use Rattle.ras_sat.specs.Tasks.{IsTask, AreOpposites, opposites_of_literals, opposites_at, schema_of}
 use Rattle.ras_sat.specs.Splits.{IsRefutation, AreRefuted, IsEachOpen, IsIdle}
-use Rattle.ras_refute.proofs.Tables.{contains-later}
+use Rattle.ras_logic.proofs.Elements.{contains-later}
 use Rattle.ras_sat.proofs.Wider.{closes-whole, needed-narrower}
 
 module _ (schema : SchemaParts) (formulas : List Problem) (rows : List RelId) where

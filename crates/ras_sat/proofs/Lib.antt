@@ -1,7 +1,7 @@
 pub mod Paths
 pub mod Wider
 pub mod Joining
-pub mod Asserting
+pub mod FactModels
 pub mod Choosing
 pub mod Opposing
 pub mod Depths

@@ -17,48 +17,11 @@ use Rattle.ras_logic.specs.Shapes.{ShapeParts}
 use Rattle.ras_logic.specs.Terms.{sort_of_base, sort_along, sort_of, replace_term}
 use Rattle.ras_logic.specs.Formulas.{LiteralFits, Fits, IsCube, negated, replace}
 use Rattle.ras_logic.specs.Refutations.{AreRowsOf, chosen_row}
-use Rattle.ras_logic.proofs.TermSorts.{and_then_through, and_then_from}
-use Rattle.ras_logic.proofs.Clashes.{from_known}
-use Rattle.ras_logic.proofs.Closing.{replaced-sort}
+use Rattle.ras_logic.proofs.Elements.{from_known}
+use Rattle.ras_logic.proofs.Closing.{replaced-fits}
 use Rattle.ras_sat.specs.declared.instance.Instance.{Instance}
 use Rattle.ras_sat.specs.Instances.{IsInstance}
 use Rattle.ras_sat.specs.Tasks.{AreOpposites, AreFirstOpposites, opposites_of_literals}
-
--- rows of a premise are small numbers
-pub rows-small : (premise formula : List RelId) (chosen : List ℕ) → length premise ≤ 65535 → AllZip (λ (r : RelId) (k : ℕ). slice_get premise k ≡ Some r) formula chosen → All (λ k. k < 2 ^ 16) chosen
-rows-small premise [] [] few z = All-nil (λ k. k < 2 ^ 16)
-rows-small premise [] (k ∷ chosen) few z = absurd z
-rows-small premise (r ∷ formula) [] few z = absurd z
-rows-small premise (r ∷ formula) (k ∷ chosen) few z =
-    let lt = slice_get_within premise k r z.0 in
-    let small : k < 2 ^ 16 = omega (arith, lt, few) in
-    All-cons (λ k. k < 2 ^ 16) k chosen small (rows-small premise formula chosen few z.1)
-
-chosen_relation : (rows formula : List RelId) (chosen : List ℕ) → AllZip (λ (r : RelId) (k : ℕ). slice_get rows k ≡ Some r) formula chosen
-    → (n : ℕ) (r : RelId) → slice_get formula n ≡ Some r → slice_get rows (get_or chosen n 0) ≡ Some r
-chosen_relation rows [] chosen z n r h = absurd (cc)
-chosen_relation rows (q ∷ formula) [] z n r h = absurd z
-chosen_relation rows (q ∷ formula) (k ∷ chosen) z zero r h = z.0 ∙ h
-chosen_relation rows (q ∷ formula) (k ∷ chosen) z (suc n) r h = chosen_relation rows formula chosen z.1 n r h
-
-module _ (shape : ShapeParts) (rows formula_rows : List RelId) (params : List SortId) (chosen : List ℕ) (of : AreRowsOf rows formula_rows chosen) where
-  base-fits : (b : Base) (s : SortId) → sort_of_base shape formula_rows [] b ≡ Some s → sort_of shape rows params (chosen_row chosen b) ≡ Some s
-  base-fits (Var x) s h = rw h
-  base-fits (Cell row column) s h =
-      let t = and_then_through (λ (r : RelId). option_and_then (λ (columns : List SortId). slice_get columns column) (slice_get shape.relations r.n)) (slice_get formula_rows row) s h in
-      rw (chosen_relation rows formula_rows chosen of.relations row t.mid t.first, t.second)
-  base-fits (Constant c) s h = rw h
-  base-fits (Undef u) s h = rw h
-  base-fits (Param p) s h = absurd (cc)
-
-  term-fits : (t : Term) (s : SortId) → sort_of shape formula_rows [] t ≡ Some s → sort_of shape rows params (replace_term (chosen_row chosen) t) ≡ Some s
-  term-fits t s h =
-      let u = and_then_through (sort_along shape.schema t.path) (sort_of_base shape formula_rows [] t.base) s h in
-      replaced-sort shape rows params (chosen_row chosen) t
-      ∙ and_then_from (sort_along shape.schema t.path) (sort_of shape rows params (chosen_row chosen t.base)) u.mid s (base-fits t.base u.mid u.first) u.second
-
-  pub opposite-fits : (l : Literal) → LiteralFits shape formula_rows [] l → LiteralFits shape rows params (negated (replace (chosen_row chosen) l))
-  opposite-fits (Equal left right same) f = (f.0, term-fits left f.0 f.1, term-fits right f.0 f.2)
 
 -- the opposites of an instance's literals
 pub opposites-are : (shape : ShapeParts) (premise : Problem) (formulas : List Problem) → All (Fits shape) formulas → (i : Instance) → IsInstance premise.rows formulas i
@@ -75,7 +38,7 @@ opposites-are shape premise formulas fit i instance f known cube few opposites i
       fit = subst (All (LiteralFits shape premise.rows premise.params)) (sym is)
           (All-map (LiteralFits shape premise.rows premise.params) (λ (l : Literal). negated (replace (chosen_row i.rows) l)) f.literals
           (All-weaker (LiteralFits shape f.rows []) (λ (l : Literal). LiteralFits shape premise.rows premise.params (negated (replace (chosen_row i.rows) l)))
-          (opposite-fits shape premise.rows f.rows premise.params i.rows rows_of) f.literals literals));
+          (replaced-fits shape premise.rows f.rows premise.params i.rows rows_of) f.literals literals));
       few = rw (is, length-map f.literals (λ (l : Literal). negated (replace (chosen_row i.rows) l))) few;
     }
 

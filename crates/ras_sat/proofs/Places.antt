@@ -11,7 +11,7 @@ use Rattle.ras_logic.specs.declared.tree.Node.TheVariants.{Leaf}
 use Rattle.ras_logic.specs.Formulas.{LiteralFits}
 use Rattle.ras_logic.specs.Clashes.{FactsClash}
 use Rattle.ras_logic.specs.Refutations.{CloseAll}
-use Rattle.ras_logic.proofs.Clashes.{from_known}
+use Rattle.ras_logic.proofs.Elements.{from_known}
 use Rattle.ras_refute.proofs.Walking.{reverse-push}
 use Rattle.ras_refute.proofs.Wider.{clash-wider}
 use Rattle.ras_refute.proofs.Lists.{at-push}
@@ -23,7 +23,7 @@ use Rattle.ras_sat.specs.Facts.{AddsLast, DropsLast}
 use Rattle.ras_sat.specs.Verdicts.{IsCase, IsUnsplit}
 use Rattle.ras_sat.specs.Splits.{IsRefutation, AreRefuted, AreOpen, instances_of}
 use Rattle.ras_sat.specs.Needed.{AllNeeded}
-use Rattle.ras_refute.proofs.Tables.{contains_cases, contains-here, contains-later}
+use Rattle.ras_logic.proofs.Elements.{contains_cases, contains-here, contains-later}
 use Rattle.ras_sat.specs.Instances.{IsByInstance}
 use Rattle.ras_sat.specs.Efforts.{effort_at}
 use Rattle.ras_sat.proofs.Wider.{AreWithin, closes-wider, needed-narrower}

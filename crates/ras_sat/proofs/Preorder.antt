@@ -10,7 +10,7 @@ use Rattle.ras_logic.specs.declared.tree.Node.{Node}
 use Rattle.ras_logic.specs.Schemas.{SchemaParts}
 use Rattle.ras_logic.specs.Trees.{children_of, AreTrees}
 use Rattle.ras_logic.specs.Refutations.{CloseAll}
-use Rattle.ras_logic.proofs.Clashes.{from_known}
+use Rattle.ras_logic.proofs.Elements.{from_known}
 use Rattle.ras_sat.specs.Needed.{AreChildrenNeeded}
 
 -- as many trees at the front are the same nodes

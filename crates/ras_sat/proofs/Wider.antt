@@ -13,7 +13,7 @@ use Rattle.ras_logic.specs.Schemas.{SchemaParts}
 use Rattle.ras_logic.specs.Formulas.{negated, replace}
 use Rattle.ras_logic.specs.Trees.{AreTrees}
 use Rattle.ras_logic.specs.Refutations.{chosen_row, children_facts, CloseAll}
-use Rattle.ras_refute.proofs.Tables.{contains_cases, contains-here, contains-later}
+use Rattle.ras_logic.proofs.Elements.{contains_cases, contains-here, contains-later}
 use Rattle.ras_refute.proofs.Wider.{clash-wider}
 use Rattle.ras_sat.specs.Needed.{AllNeeded}
 

@@ -1,10 +1,8 @@
 pub mod Instances
 pub mod Answers
 pub mod Needed
-pub mod Sides
 pub mod Tasks
 pub mod Facts
-pub mod Closings
 pub mod Verdicts
 pub mod Choices
 pub mod Splits

@@ -30,7 +30,7 @@ fn holds_some(model: &Model, literals: &[Literal]) -> bool
 }
 
 /// How many children a split has that aren't known to clash at once.
-fn open_children(known: &Known, opposites: &[Literal]) -> usize
+fn open_children(known: &Known<'_>, opposites: &[Literal]) -> usize
     ensures { result ≤ length opposites.now }
 {
     let mut open = 0;
@@ -43,7 +43,7 @@ fn open_children(known: &Known, opposites: &[Literal]) -> usize
 }
 
 /// The rank of an instance: splits with no open child come first, then those with one, then those with the fewest children.
-fn rank(known: &Known, opposites: &[Literal]) -> usize {
+fn rank(known: &Known<'_>, opposites: &[Literal]) -> usize {
     let open = open_children(known, opposites);
     if open > 1 { opposites.len() } else { open }
 }
@@ -57,7 +57,7 @@ fn better(best: Choice, other: Choice) -> Choice
 
 /// The best choice so far, where one more instance is looked at.
 fn consider(
-    known: &Known,
+    known: &Known<'_>,
     model: &Model,
     instance: usize,
     opposites: &[Literal],
@@ -79,7 +79,7 @@ fn consider(
 }
 
 /// The instance to split on; none where each has an opposite that holds in the model.
-pub fn choose(task: &Task<'_>, known: &Known, model: &Model) -> Option<usize>
+pub fn choose(task: &Task<'_>, known: &Known<'_>, model: &Model) -> Option<usize>
     ensures none { IfNone result ((k : ℕ) → k < length task.now.opposites.now → HoldsSome model.now.db model.now.values (opposites_at task.now k)) }
     ensures within { IfSome result (λ k. k < length task.now.opposites.now) }
     ensures unfalsified { IfSome result (λ k. HoldsNone model.now.db model.now.values (opposites_at task.now k)) }

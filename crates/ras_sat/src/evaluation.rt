@@ -2,7 +2,6 @@ ghost use Rattle.std.specs.Prelude.{◌≡◌, List, slice_get, get_or, []};
 ghost use Rattle.ras_logic.specs.Databases.{image as the_image, constant_of};
 ghost use Rattle.ras_logic.specs.Truth.{value_of_base as the_base_value, image_along, value as the_value, holds as it_holds};
 
-use crate::sides::{left, right, says_same};
 use ras_logic::{Base, FunId, Literal, RawDb, Term, Values};
 
 /// The number at a place of a list, 0 where the list has none.
@@ -65,6 +64,6 @@ pub fn value(db: &RawDb, values: &Values, term: &Term) -> u32
 pub fn holds(db: &RawDb, values: &Values, literal: &Literal) -> bool
     ensures { result ≡ it_holds db.now values.now literal.now }
 {
-    let same = value(db, values, left(literal)) == value(db, values, right(literal));
-    same == says_same(literal)
+    let same = value(db, values, literal.left()) == value(db, values, literal.right());
+    same == literal.says_same()
 }

@@ -1,4 +1,3 @@
-use crate::sides::{left, right, says_same};
 use ras_closure::Closure;
 use ras_logic::{Literal, Problem, Shape};
 use std::alloc::{AllocError, Global};
@@ -13,8 +12,8 @@ pub struct Apart {
 /// What the facts of a case say of which terms are the same and which are not. It only guides the order of splits, so no
 /// contract speaks of it.
 #[derive(Drop)]
-pub struct Known {
-    closure: Closure,
+pub struct Known<'a> {
+    closure: &'a Closure,
     /// How many class numbers are those of undef and of constants, which all differ: the first ones.
     rigid: u32,
     apart: Vec<Apart>,
@@ -22,32 +21,48 @@ pub struct Known {
 
 /// The classes of both sides of a literal, where both are terms of the closure.
 fn classes_of(closure: &Closure, literal: &Literal) -> Option<Apart> {
-    let left = closure.term(left(literal))?;
-    let right = closure.term(right(literal))?;
+    let left = closure.term(literal.left())?;
+    let right = closure.term(literal.right())?;
     Some(Apart {
         left: closure.class_of(left),
         right: closure.class_of(right),
     })
 }
 
-impl Known {
+/// The classes of both sides of a fact that says that they are not the same.
+fn apart_by(closure: &Closure, fact: &Literal) -> Option<Apart> {
+    if fact.says_same() {
+        return None;
+    }
+    classes_of(closure, fact)
+}
+
+/// The classes that some fact says are not the same.
+fn all_apart(
+    alloc: Global,
+    closure: &Closure,
+    facts: &[Literal],
+) -> Result<Vec<Apart>, AllocError> {
+    let mut all = Vec::new(alloc);
+    for fact in facts {
+        if let Some(classes) = apart_by(closure, fact) {
+            all.push(classes)?;
+        }
+    }
+    Ok(all)
+}
+
+impl<'a> Known<'a> {
     /// What the facts say of which this is the closure.
     pub fn of(
         alloc: Global,
         shape: &Shape,
         facts: &Problem,
-        closure: Closure,
-    ) -> Result<Known, AllocError> {
+        closure: &'a Closure,
+    ) -> Result<Known<'a>, AllocError> {
         let schema = shape.schema();
         let rigid = u32::from(schema.sort_count()) + u32::from(schema.constant_count());
-        let mut apart = Vec::new(alloc);
-        for fact in facts.literals.as_slice() {
-            if !says_same(fact) {
-                if let Some(classes) = classes_of(&closure, fact) {
-                    apart.push(classes)?;
-                }
-            }
-        }
+        let apart = all_apart(alloc, closure, facts.literals.as_slice())?;
         Ok(Known {
             closure,
             rigid,
@@ -69,10 +84,10 @@ impl Known {
 
     /// Whether a literal is known not to hold.
     pub fn refutes(&self, literal: &Literal) -> bool {
-        match classes_of(&self.closure, literal) {
+        match classes_of(self.closure, literal) {
             None => false,
             Some(classes) => {
-                if says_same(literal) {
+                if literal.says_same() {
                     self.are_apart(classes.left, classes.right)
                 } else {
                     classes.left == classes.right

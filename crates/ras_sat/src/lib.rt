@@ -21,7 +21,6 @@ mod open_split;
 mod opposites;
 mod pruning;
 mod search;
-mod sides;
 mod step;
 mod task;
 #[cfg(test)]

@@ -1,54 +1,20 @@
-ghost use Rattle.std.specs.Prelude.{◌≡◌, ◌<◌, ◌^◌, All, IfOk, OnOk, List, Some, slice_get, length, get_or, []};
-ghost use Rattle.ras_logic.specs.Terms.{base_term, replace_term};
+ghost use Rattle.std.specs.Prelude.{◌≡◌, ◌<◌, ◌^◌, All, IfOk, length};
 ghost use Rattle.ras_logic.specs.Formulas.{Fits, negated, replace};
 ghost use Rattle.ras_logic.specs.Refutations.{chosen_row};
 ghost use Rattle.ras_sat.specs.Instances.{IsInstance};
 ghost use Rattle.ras_sat.specs.Tasks.{opposites_of_literals, AreOpposites, AreFirstOpposites};
 
 use crate::instance::Instance;
-use crate::sides::{left, right, says_same};
-use ras_logic::{Base, Cube, List, Literal, Plain, Problem, Shape, Shared, Term};
+use ras_logic::{Cube, List, Literal, Problem, Shape, Shared};
 use std::alloc::{AllocError, Global};
-
-/// The base with the formula's row replaced by the chosen one, or by row 0 where the formula has no such row.
-fn chosen_base(base: Base, chosen: &[u32]) -> Base
-    requires { All (λ k. k < 2 ^ 16) chosen.now }
-    ensures { base_term result ≡ chosen_row chosen.now base }
-{
-    match base {
-        Base::Cell { row, column } => Base::Cell {
-            row: chosen.get(row as usize).copied().unwrap_or(0) as u16,
-            column,
-        },
-        Base::Var(v) => Base::Var(v),
-        Base::Constant(c) => Base::Constant(c),
-        Base::Undef(s) => Base::Undef(s),
-        Base::Param(p) => Base::Param(p),
-    }
-}
-
-/// The term with the formula's rows replaced by the chosen ones.
-fn chosen_term(alloc: Global, term: &Term, chosen: &[u32]) -> Result<Term, AllocError>
-    requires { All (λ k. k < 2 ^ 16) chosen.now }
-    ensures { IfOk result (λ t. t ≡ replace_term (chosen_row chosen.now) term.now) }
-{
-    let path = term.path.copy(alloc)?;
-    Ok(Term {
-        base: chosen_base(term.base, chosen),
-        path,
-    })
-}
 
 /// The opposite of a formula's literal, with its rows replaced by the chosen ones.
 fn opposite(alloc: Global, literal: &Literal, chosen: &[u32]) -> Result<Literal, AllocError>
     requires { All (λ k. k < 2 ^ 16) chosen.now }
     ensures { IfOk result (λ l. l ≡ negated (replace (chosen_row chosen.now) literal.now)) }
 {
-    Ok(Literal::Equal {
-        left: chosen_term(alloc, left(literal), chosen)?,
-        right: chosen_term(alloc, right(literal), chosen)?,
-        same: !says_same(literal),
-    })
+    let literal = literal.with_rows(alloc, chosen)?;
+    Ok(literal.opposite())
 }
 
 /// The opposites of a formula's literals, with its rows replaced by the chosen ones.
@@ -79,6 +45,7 @@ fn opposites_of(
     requires instance { IsInstance premise.now.rows formulas.now instance.now }
     ensures { IfOk result (AreOpposites shape.now premise.now formulas.now instance.now) }
 {
+    // its contract says how many rows there are at most
     let _rows = premise.rows.len();
     let formula = formulas[instance.formula as usize].get();
     formula.known();

@@ -9,11 +9,11 @@ returns c =
     let t = c.args.table.now in
     let marks = c.args.marks.now in
     let old = c.args.classes.now in
-    let partial = c.requires.partial in
+    let partial = c.requires.classes.partial in
     let to : c.min-to.result ≡ min (class old c.args.left) (class old c.args.right) = cc in
     let from : c.max-from.result ≡ max (class old c.args.left) (class old c.args.right) = cc in
-    let made = merging t c.known.ensures marks old partial c.requires.width c.args.left c.args.right c.min-to.result c.max-from.result c.requires.left c.requires.right
-    c.requires.together c.requires.differ to from in
+    let made = merging t c.known.ensures marks old partial c.requires.classes.width c.args.left c.args.right c.min-to.result c.max-from.result c.requires.pair.left c.requires.pair.right
+    c.requires.pair.together c.requires.differ to from in
     let m : IsMerged t c.known.ensures marks old partial c.relabel.new.self c.args.left c.args.right c.min-to.result c.max-from.result =
     subst (λ (cs : List ℕ). IsMerged t c.known.ensures marks old partial cs c.args.left c.args.right c.min-to.result c.max-from.result) (sym c.relabel.ensures) made in
     record {
@@ -21,5 +21,5 @@ returns c =
       coarser = m.coarser;
       merged = m.merged;
       fewer = m.fewer;
-      clash = merged-answer t c.known.ensures marks old partial c.args.left c.args.right c.min-to.result c.max-from.result c.relabel.new.self m c.breaking-clash.result c.breaking-clash.ensures;
+      clash = merged-answer t c.known.ensures marks old partial c.args.left c.args.right c.min-to.result c.max-from.result c.relabel.new.self m c.find_conflict-clash.result c.find_conflict-clash.ensures;
     }

@@ -1,7 +1,7 @@
 use Rattle.std.proofs.Common.{◌+◌, ◌∙◌, ap, ◌∷◌, [], ◌++◌, take, sym}
 use Rattle.std.proofs.lemmas.List.{take_more}
 use Rattle.ras_logic.specs.declared.literal.Literal.{Literal}
-use Rattle.ras_refute.proofs.Tables.{adds-facts}
+use Rattle.ras_refute.proofs.Tables.{adds-facts, fixed-kept}
 use Rattle.ras_refute.proofs.table.place_facts.Goals as goal
 
 pub loop-fact-preserved : goal.loop-fact-preserved
@@ -12,3 +12,7 @@ loop-fact-preserved c =
     c.loop-fact.sides l c.in_ok-place_fact.field-0
     (take_more c.args.facts.now c.loop-fact.fact-index l c.loop-fact-test.true ∙ ap (λ (x : Literal). take c.loop-fact.fact-index c.args.facts.now ++ x ∷ []) (sym c.fact-item.is))
     c.loop-fact.invariant c.in_ok-place_fact.ensures)
+
+pub place_fact-requires-clause-fixed : goal.place_fact-requires-clause-fixed
+place_fact-requires-clause-fixed c =
+    fixed-kept c.args.schema.now c.args.entries.now c.loop-fact.entries c.requires.fixed c.loop-fact.invariant.adds.grows

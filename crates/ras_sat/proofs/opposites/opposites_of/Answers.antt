@@ -5,7 +5,8 @@ use Rattle.std.proofs.lemmas.Option.{slice_get-get_or, slice_get_within}
 use Rattle.ras_logic.specs.declared.literal.Literal.{Literal}
 use Rattle.ras_logic.specs.declared.problem.Problem.{Problem}
 use Rattle.ras_sat.specs.Tasks.{AreOpposites, opposites_of_literals}
-use Rattle.ras_sat.proofs.Opposing.{rows-small, opposites-are}
+use Rattle.ras_refute.proofs.Choices.{rows-small}
+use Rattle.ras_sat.proofs.Opposing.{opposites-are}
 use Rattle.ras_sat.proofs.opposites.opposites_of.Goals as goal
 
 pub opposites-requires : goal.opposites-requires
@@ -13,7 +14,7 @@ opposites-requires c =
     let i = c.requires.instance in
     let room : c.len-rows.result ≤ 65535 = c.len-rows.ensures.room in
     let few : length c.args.premise.now.rows ≤ 65535 = omega (arith, room, c.len-rows.ensures.count) in
-    subst (All (λ k. k < 2 ^ 16)) (sym c.as_slice.ensures.items) (rows-small c.args.premise.now.rows i.formula.rows c.args.instance.now.rows few i.rows_of.relations)
+    subst (All (λ k. k < 2 ^ 16)) (sym c.as_slice.ensures.items) (rows-small c.args.premise.now.rows i.formula.rows c.args.instance.now.rows few i.rows_of)
 
 pub returns : goal.returns
 returns c =

@@ -10,13 +10,16 @@ unite-clash-requires c =
     let lt_right : IsNo old c.args.right = subst (λ (o : ClosureParts). IsNo o c.args.right) (sym c.self.view_is) c.requires.right in
     let one_sort : AreOfOneSort old c.args.left c.args.right = subst (λ (o : ClosureParts). AreOfOneSort o c.args.left c.args.right) (sym c.self.view_is) c.requires.one_sort in
     record {
-      marks_width = c.note.ensures.width ∙ c.self.invariant.0.width;
-      width = c.self.invariant.1;
-      functions = c.self.invariant.2;
-      left = lt_left;
-      right = lt_right;
-      partial = marks-partial old c.known.ensures c.self.invariant.0 c.note.new.self true c.args.left c.args.right lt_left lt_right one_sort c.note.ensures;
-      together = marks-together old c.known.ensures c.self.invariant.0 c.note.new.self true c.args.left c.args.right lt_left lt_right one_sort c.note.ensures refl;
+      signatures = record { width = c.self.invariant.1; functions = c.self.invariant.2 };
+      classes = record {
+        width = c.note.ensures.width ∙ c.self.invariant.0.width;
+        partial = marks-partial old c.known.ensures c.self.invariant.0 c.note.new.self true c.args.left c.args.right lt_left lt_right one_sort c.note.ensures;
+      };
+      pair = record {
+        left = lt_left;
+        right = lt_right;
+        together = marks-together old c.known.ensures c.self.invariant.0 c.note.new.self true c.args.left c.args.right lt_left lt_right one_sort c.note.ensures refl;
+      };
       unbroken = marks-unbroken old c.known.ensures c.self.invariant.0 c.note.new.self true c.args.left c.args.right lt_left lt_right one_sort c.note.ensures refl
           (c.self.invariant.0.verdict.unbroken c.in_default.is);
     }
@@ -30,8 +33,8 @@ invariant_of-self c =
     let unite = c.unite-clash.ensures in (
       closure-same old c.known.ensures c.self.invariant.0 c.note.new.self true c.args.left c.args.right lt_left lt_right one_sort c.note.ensures c.unite-clash.new.classes c.unite-clash.result refl
           unite.rest unite.merged unite.verdict,
-      unite.width ∙ c.self.invariant.1,
-      unite.functions ∙ c.self.invariant.2,
+      unite.signatures.width,
+      unite.signatures.functions,
     )
 
 pub returns : goal.returns

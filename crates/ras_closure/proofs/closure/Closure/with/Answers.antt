@@ -7,10 +7,8 @@ saturate-clash-requires c =
     let room = c.in_ok-room.ensures in
     let table = c.in_ok-table.table in
     record {
-      marks_width = room.width;
-      width = room.signatures;
-      functions = room.functions;
-      partial = start-partial table c.known.ensures c.in_ok-room.room.marks room.width room.none c.in_ok-room.room.classes (length table.terms) refl room.long room.own;
+      signatures = record { width = room.signatures; functions = room.functions };
+      classes = record { width = room.width; partial = start-partial table c.known.ensures c.in_ok-room.room.marks room.width room.none c.in_ok-room.room.classes (length table.terms) refl room.long room.own };
       verdict = start-verdict table c.known.ensures c.in_ok-room.room.marks room.width room.none c.in_ok-room.room.classes (length table.terms) refl room.long room.own;
     }
 
@@ -19,8 +17,8 @@ invariant_of-result c =
     let room = c.in_ok-room.ensures in
     let done = c.saturate-clash.ensures in (
       start-closure c.in_ok-table.table c.known.ensures c.in_ok-room.room.marks room.width room.none c.in_ok-room.room.classes c.saturate-clash.new.classes c.saturate-clash.result done.rest done.verdict,
-      done.width ∙ room.signatures,
-      done.functions ∙ room.functions,
+      done.signatures.width,
+      done.signatures.functions,
     )
 
 pub returns-clause-none : goal.returns-clause-none

@@ -1,7 +1,16 @@
-use Rattle.ras_refute.proofs.Tables.{made-table}
+use Rattle.std.proofs.Common.{◌≡◌, ℕ, length, sym, subst}
+use Rattle.ras_refute.specs.Tables.{AddsUndefs, AddsConstants}
+use Rattle.ras_refute.proofs.Tables.{fixed-made, made-table}
 use Rattle.ras_refute.proofs.table.Table.new.Goals as goal
+
+pub place_facts-requires-clause-fixed : goal.place_facts-requires-clause-fixed
+place_facts-requires-clause-fixed c =
+    fixed-made c.args.schema.now c.place_undefs.new.entries c.place_constants.new.entries
+    (rw (← c.sort_count-sorts.ensures) c.in_ok-place_undefs.ensures)
+    (rw (← c.sort_count-sorts.ensures, ← c.constant_count.ensures) c.in_ok-place_constants.ensures)
 
 pub returns : goal.returns
 returns c =
-    made-table c.args.schema.now c.args.facts.now c.place_undefs.new.entries c.place_constants.new.entries c.place_facts.new.entries c.in_ok-sides.sides
-    (rw (← c.sort_count.ensures) c.in_ok-place_undefs.ensures) (rw (← c.constant_count.ensures) c.in_ok-place_constants.ensures) c.in_ok-sides.ensures
+    made-table c.args.schema.now c.args.facts.now c.place_undefs.new.entries c.place_constants.new.entries c.place_facts.new.entries
+    c.in_ok-sides.sides (rw (← c.sort_count-sorts.ensures) c.in_ok-place_undefs.ensures)
+    (rw (← c.sort_count-sorts.ensures, ← c.constant_count.ensures) c.in_ok-place_constants.ensures) c.in_ok-sides.ensures

@@ -1,0 +1,51 @@
+-- What the models of the closure of facts mean.
+use Rattle.std.proofs.Common.{◌≡◌, ℕ, ◌+◌, ◌<◌, ◌≤◌, true, false, List, length, get_or, sym, ◌∙◌, subst, arith, ◌⊎◌, inl, inr, ⊎_elim}
+use Rattle.std.specs.Prelude.{slice_get, Some, None, Contains, ◌↔◌}
+use Rattle.std.proofs.lemmas.List.Elements.{Contains-get_or}
+use Rattle.std.proofs.lemmas.Option.{slice_get_within, slice_get-get_or, get_or_from_slice_get, same_Some}
+use Rattle.ras_logic.specs.declared.literal.Literal.{Literal}
+use Rattle.ras_logic.specs.declared.literal.Literal.TheVariants.{Equal}
+use Rattle.ras_logic.specs.declared.problem.Problem.{Problem}
+use Rattle.ras_logic.specs.declared.term.Term.{Term}
+use Rattle.ras_logic.specs.declared.raw_db.RawDb.{RawDb}
+use Rattle.ras_logic.specs.declared.values.Values.{Values}
+use Rattle.ras_logic.specs.Shapes.{ShapeParts, IsShape}
+use Rattle.ras_logic.specs.Schemas.{SchemaParts}
+use Rattle.ras_logic.specs.Databases.{IsDatabase}
+use Rattle.ras_logic.specs.Formulas.{Fits, LiteralFits}
+use Rattle.ras_logic.specs.Truth.{AreValues, Satisfies}
+use Rattle.ras_logic.specs.Clashes.{Together, reflexive, symmetric, transitive, stated, same_images, image_of_undef, only_undef, Clash, stated_apart, two_constants, constant_undef, FactsClash}
+use Rattle.ras_logic.proofs.Clashes.{clash-none}
+use Rattle.ras_closure.specs.Closures.{ClosureParts, IsFactOf, FactsClashIn}
+use Rattle.ras_closure.specs.SmallModels.{IsModelOf}
+use Rattle.ras_sat.specs.declared.task.Task.{Task}
+use Rattle.ras_sat.specs.Tasks.{IsTask}
+use Rattle.ras_sat.specs.Verdicts.{IsCase}
+use Rattle.ras_closure.specs.Closings.{IsClosureOf}
+
+-- a model of the closure of facts satisfies them
+pub record IsModelOfFacts (shape : ShapeParts) (facts : Problem) (d : RawDb) (v : Values) : Type 0 where
+  pub database : IsDatabase shape.schema d
+  pub satisfies : Satisfies shape d v facts
+
+pub model-facts : (shape : ShapeParts) (facts : Problem) (c : ClosureParts) (d : RawDb) (v : Values) → IsClosureOf shape facts c → IsModelOf c d v → IsModelOfFacts shape facts d v
+model-facts shape facts c d v of model = record {
+  database = subst (λ (s : ShapeParts). IsDatabase s.schema d) of.shape_is model.database;
+  satisfies = record {
+    values = subst (λ (p : Problem). AreValues shape d p.rows p.params v) of.problem_is (subst (λ (s : ShapeParts). AreValues s d c.table.problem.rows c.table.problem.params v) of.shape_is model.values);
+    literals = λ k l lt. model.facts (get_or facts.literals k l) ((of.asserted (get_or facts.literals k l)).1 (Contains-get_or facts.literals k l lt));
+  };
+}
+
+-- facts with a model do not clash
+pub satisfied-no_clash : (shape : ShapeParts) → IsShape shape → (facts : Problem) → Fits shape facts → (d : RawDb) (v : Values) → IsModelOfFacts shape facts d v → ¬ FactsClash shape.schema facts.literals
+satisfied-no_clash shape ok facts fits d v model clash =
+    clash-none shape d model.database facts.rows facts.params v model.satisfies.values ok.schema facts.literals fits.literals model.satisfies.literals clash
+
+-- the facts of a case fit
+pub case-fits : (t : Task) → IsTask t → (facts : Problem) → IsCase t facts → Fits t.shape.now facts
+case-fits t task facts at = record {
+  rows = rw at.rows task.fits.rows;
+  params = rw at.params task.fits.params;
+  literals = rw (at.rows, at.params) at.fit;
+}
