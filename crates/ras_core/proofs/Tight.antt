@@ -1,5 +1,5 @@
 -- What is admissible is tight for the entry from which it comes.
-use Rattle.std.proofs.Common.{◌≡◌, ℕ, List, map, take, sym, ◌∙◌, subst}
+use Rattle.std.proofs.Common.{◌≡◌, ℕ, List, take, sym, ◌∙◌, subst}
 use Rattle.std.specs.Prelude.{slice_get, Some}
 use Rattle.ras_logic.specs.declared.problem.Problem.{Problem}
 use Rattle.ras_system.specs.Systems.{SystemParts}

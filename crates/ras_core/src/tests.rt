@@ -53,7 +53,12 @@ fn cubes_are_kept(rt: HostRuntime) -> Result<(), Fail> {
     let events = [admit, Event::Claim { entry: 0 }, skip, spill, hit];
     let mut state = CoreState::new(alloc, 1, 1);
     assert!(rt; all_taken(&mut state, &events, alloc)?);
-    assert!(rt; state.entries()[0].submissions().len() == 1);
+    assert!(rt;
+        state
+            .entries()
+            .iter()
+            .all(|entry| entry.submissions().len() == 1)
+    );
     Ok(())
 }
 

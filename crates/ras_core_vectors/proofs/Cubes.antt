@@ -1,9 +1,8 @@
 -- What a state that meets one of the cubes says of the variable.
-use Rattle.std.proofs.Common.{◌≡◌, ℕ, zero, suc, ◌<◌, Bool, true, false, List, [], ◌∷◌, get_or, refl, sym, ◌∙◌, subst, arith}
-use Rattle.std.specs.Prelude.{slice_get, Some, None, IsTrue, Any, not, nat_eq}
+use Rattle.std.proofs.Common.{◌≡◌, ℕ, Bool, true, false, List, [], ◌∷◌, get_or, refl, sym, ◌∙◌, arith}
+use Rattle.std.specs.Prelude.{slice_get, Some, None, IsTrue, not, nat_eq}
 use Rattle.std.proofs.lemmas.Bool.{eqb-true, eq-eqb}
-use Rattle.std.proofs.lemmas.List.Elements.{All-nil, All-cons, All-head, All-tail}
-use Rattle.ras_logic.specs.declared.ids.ConstId.{ConstId}
+use Rattle.std.proofs.lemmas.List.Elements.{All-nil, All-cons, All-head}
 use Rattle.ras_logic.specs.declared.raw_db.RawDb.{RawDb}
 use Rattle.ras_logic.specs.declared.literal.Literal.{Literal}
 use Rattle.ras_logic.specs.declared.problem.Problem.{Problem}
@@ -13,7 +12,7 @@ use Rattle.ras_logic.specs.Truth.{AreElements, AllHold, holds}
 use Rattle.ras_system.specs.declared.state.State.{State}
 use Rattle.ras_system.specs.declared.transition.Transition.{Transition}
 use Rattle.ras_system.specs.Systems.{SystemParts}
-use Rattle.ras_system.specs.States.{IsState, AreRows, Meets, values_at}
+use Rattle.ras_system.specs.States.{AreRows, Meets, values_at}
 use Rattle.ras_extension.specs.Reaching.{IsStateOf}
 use Rattle.ras_core.specs.Admissible.{IsFormula, NoneIsInitial}
 use Rattle.ras_vectors.proofs.DataTests.{is_database, is_database-passed, fits, fits-passed, is_cube, is_cube-passed}

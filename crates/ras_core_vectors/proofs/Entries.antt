@@ -1,6 +1,6 @@
 -- The entries of the searches: each is admissible where it is admitted, and worked out where it is done.
-use Rattle.std.proofs.Common.{◌≡◌, ℕ, zero, suc, ◌<◌, List, [], ◌∷◌, get_or, refl, sym, ◌∙◌, ap, subst, arith, inl}
-use Rattle.std.specs.Prelude.{slice_get, Option, Some}
+use Rattle.std.proofs.Common.{◌≡◌, ℕ, zero, suc, [], ◌∷◌, refl, sym, ◌∙◌, ap, subst, arith, inl}
+use Rattle.std.specs.Prelude.{Option, Some}
 use Rattle.std.proofs.lemmas.List.Elements.{All-nil, All-cons}
 use Rattle.ras_logic.specs.declared.raw_db.RawDb.{RawDb}
 use Rattle.ras_logic.specs.declared.problem.Problem.{Problem}
@@ -8,12 +8,12 @@ use Rattle.ras_system.specs.declared.state.State.{State}
 use Rattle.ras_system.specs.States.{Meets, MeetsAny}
 use Rattle.ras_extension.specs.Reaching.{Leads}
 use Rattle.ras_core.specs.declared.origin.Origin.TheVariants.{Goal, Step}
-use Rattle.ras_core.specs.CoreStates.{EntryParts, IsEntry, IsKeptEntry}
-use Rattle.ras_core.specs.Admissible.{IsTight, IsAdmissible, HasNewState, SomeIsInitial, LeadsToEntry}
+use Rattle.ras_core.specs.CoreStates.{EntryParts, IsKeptEntry}
+use Rattle.ras_core.specs.Admissible.{IsTight, IsAdmissible, SomeIsInitial, LeadsToEntry}
 use Rattle.ras_core.specs.Events.{IsWorkedOut, IsInside, IsReasoned, AreKept}
 use Rattle.ras_vectors.proofs.DataTests.{is_database-passed}
 use Rattle.ras_vectors.proofs.StateTests.{is_initial-passed, meets-passed}
-use Rattle.ras_vectors.specs.Words.{state, database}
+use Rattle.ras_vectors.specs.Words.{state}
 use Rattle.ras_vectors.specs.Small.{still, two, unset_is_unsafe, one_element, three_elements, is_set, is_b, is_c}
 use Rattle.ras_core_vectors.specs.Searches.{away, away_at, not_a, is_unset}
 use Rattle.ras_core_vectors.proofs.Cubes.{c-here, here-b, here-not-a, a_is_not_c, set-start, b-start, c-start, not_a-start, state_of, formula_of}

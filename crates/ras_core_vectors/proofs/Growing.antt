@@ -1,6 +1,5 @@
 -- Where there is no element, the variable is undef after every run; in a larger database a step sets it.
 use Rattle.std.proofs.Common.{◌≡◌, ℕ, zero, suc, ◌<◌, ◌≤◌, List, [], ◌∷◌, get_or, refl, sym, subst, arith}
-use Rattle.ras_logic.specs.declared.raw_db.RawDb.{RawDb}
 use Rattle.ras_logic.specs.declared.problem.Problem.{Problem}
 use Rattle.ras_logic.specs.Databases.{IsDatabase, Extends}
 use Rattle.ras_system.specs.declared.state.State.{State}

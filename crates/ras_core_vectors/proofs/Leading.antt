@@ -25,7 +25,7 @@ use Rattle.ras_vectors.proofs.DataTests.{is_database-passed}
 use Rattle.ras_vectors.proofs.StateTests.{may_step-passed}
 use Rattle.ras_vectors.proofs.ListTests.{not-true}
 use Rattle.ras_vectors.specs.Words.{cube, same, apart, state, choice}
-use Rattle.ras_vectors.specs.Small.{two, three_elements, x, a, b, c, is_b, is_c, b_to_c}
+use Rattle.ras_vectors.specs.Small.{two, three_elements, x, a, b, is_b, is_c, b_to_c}
 use Rattle.ras_core_vectors.specs.Searches.{two_last, away, to_c, not_a, literal_too_many}
 use Rattle.ras_core_vectors.proofs.Cubes.{here, no_rows, no_elements, b-here, b-holds, c-here, here-c, no-a-here, not_a-holds, here-not-a, a_is_not_c, b_is_not_c, state_of}
 

@@ -2,7 +2,6 @@
 use Rattle.std.proofs.Common.{◌≡◌, ℕ, zero, suc, ◌<◌, List, [], ◌∷◌, get_or, refl, sym, subst, arith, ◌⊎◌, inl, inr}
 use Rattle.std.specs.Prelude.{Any}
 use Rattle.ras_logic.specs.declared.problem.Problem.{Problem}
-use Rattle.ras_system.specs.declared.state.State.{State}
 use Rattle.ras_system.specs.States.{Meets, MeetsAny}
 use Rattle.ras_extension.specs.Reaching.{IsStateOf, Leads}
 use Rattle.ras_core.specs.declared.origin.Origin.TheVariants.{Step}

@@ -11,11 +11,11 @@ use Rattle.ras_core.specs.declared.event.Event.{Event}
 use Rattle.ras_core.specs.declared.event.Event.TheVariants.{Claim, Admit, Skip, Drop, Done, GiveBack, Hit, Spill, Idle}
 use Rattle.ras_core.specs.declared.origin.Origin.TheVariants.{Goal, Step}
 use Rattle.ras_core.specs.declared.work.Work.TheVariants as work
-use Rattle.ras_core.specs.CoreStates.{FoundParts, EntryParts, CoreParts}
+use Rattle.ras_core.specs.CoreStates.{CoreParts}
 use Rattle.ras_core.specs.Events.{after}
 use Rattle.ras_core.specs.Journals.{replay_from, first_state}
-use Rattle.ras_vectors.specs.Words.{sort, constant, relation, var, param, same, apart, cube, set_var, database}
-use Rattle.ras_vectors.specs.Small.{plain_shape, still, unset_is_unsafe, two, x, unset, a, b, c, is_set, is_b, is_c, b_to_c}
+use Rattle.ras_vectors.specs.Words.{sort, constant, relation, param, same, apart, cube, set_var, database}
+use Rattle.ras_vectors.specs.Small.{plain_shape, two, x, unset, a, b, c, is_set, is_b, is_c, b_to_c}
 
 abbrev pub is_unset : Problem
 is_unset = cube [] (same x unset ∷ [])

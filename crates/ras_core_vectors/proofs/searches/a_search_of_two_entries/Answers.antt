@@ -9,22 +9,22 @@ pub returns-clause-lawful : goal.returns-clause-lawful
 returns-clause-lawful c = (
   record { bookkeeping = (omega arith, refl, omega arith); states = c-admissible },
   (
-  record { bookkeeping = (_, (refl, refl, refl)); states = tt },
-  (
-  record { bookkeeping = ((_, (refl, refl, refl)), refl, omega arith); states = b-admissible },
-  (
-  record { bookkeeping = (_, (refl, refl, refl)); states = λ e known. c-worked e (ap (λ (y : EntryParts). y.submissions) (entry-is _ e known)) },
-  (
-  record { bookkeeping = (_, (refl, refl, refl)); states = tt },
-  (
-  record { bookkeeping = (_, (refl, refl, refl)); states = λ e known. b-worked e (ap (λ (y : EntryParts). y.cube) (entry-is _ e known)) },
-  (
-  record { bookkeeping = (is_quiet-passed (two_at 6) refl, refl); states = tt },
-  tt,
-),
-),
-),
-),
-),
-),
+    record { bookkeeping = (_, (refl, refl, refl)); states = tt },
+    (
+      record { bookkeeping = ((_, (refl, refl, refl)), refl, omega arith); states = b-admissible },
+      (
+        record { bookkeeping = (_, (refl, refl, refl)); states = λ e known. c-worked e (ap (λ (y : EntryParts). y.submissions) (entry-is _ e known)) },
+        (
+          record { bookkeeping = (_, (refl, refl, refl)); states = tt },
+          (
+            record { bookkeeping = (_, (refl, refl, refl)); states = λ e known. b-worked e (ap (λ (y : EntryParts). y.cube) (entry-is _ e known)) },
+            (
+              record { bookkeeping = (is_quiet-passed (two_at 6) refl, refl); states = tt },
+              tt,
+            ),
+          ),
+        ),
+      ),
+    ),
+  ),
 )

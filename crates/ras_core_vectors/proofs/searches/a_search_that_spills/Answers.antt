@@ -6,10 +6,10 @@ pub returns-clause-lawful : goal.returns-clause-lawful
 returns-clause-lawful c = (
   record { bookkeeping = (omega arith, refl, omega arith); states = c-admissible },
   (
-  record { bookkeeping = (_, (refl, refl, refl)); states = tt },
-  (
-  record { bookkeeping = ((_, (refl, refl, refl)), refl, refl, refl); states = b-admissible },
-  tt,
-),
-),
+    record { bookkeeping = (_, (refl, refl, refl)); states = tt },
+    (
+      record { bookkeeping = ((_, (refl, refl, refl)), refl, refl, refl); states = b-admissible },
+      tt,
+    ),
+  ),
 )

@@ -1,4 +1,4 @@
-use Rattle.std.proofs.Common.{◌≡◌, ℕ, ◌<◌, length, ap, sym, ◌∙◌, subst}
+use Rattle.std.proofs.Common.{◌<◌, length, sym, subst}
 use Rattle.ras_core.specs.CoreStates.{CoreParts}
 use Rattle.ras_core.specs.Bookkeeping.{SearchParts, IsWithin}
 use Rattle.ras_core.proofs.Booked.{booked_admit, admitted_state, admitted_items, open_within}
