@@ -65,15 +65,8 @@ replays-nothing system budget base is = record { is_base = is; lawful = tt; stat
 
 -- an event leaves the base as it is
 after-base : (s : CoreParts) (e : Event) → (after s e).base ≡ s.base
-after-base s (event.Claim i) = refl
-after-base s (event.Admit origin cube) = refl
-after-base s (event.Skip origin cube reasons) = refl
-after-base s (event.Drop i j) = refl
-after-base s (event.Done i) = refl
-after-base s (event.GiveBack i) = refl
-after-base s (event.Hit origin cube) = refl
-after-base s (event.Spill origin cube) = refl
 after-base s event.Idle = refl
+after-base s _ = refl
 
 from-base : (s : CoreParts) (journal : List Event) → (replay_from s journal).base ≡ s.base
 from-base s [] = refl

@@ -1,10 +1,9 @@
 -- Searches of small systems: the events of each in order, and the state that they leave.
 use Rattle.std.specs.Prelude.{ℕ, true, false, List, [], ◌∷◌, take, Some, None}
 use Rattle.ras_logic.specs.declared.ids.RelId.{RelId}
-use Rattle.ras_logic.specs.declared.term.Term.{Term}
 use Rattle.ras_logic.specs.declared.problem.Problem.{Problem}
 use Rattle.ras_logic.specs.declared.raw_db.RawDb.{RawDb}
-use Rattle.ras_logic.specs.Terms.{constant_term}
+use Rattle.ras_logic.specs.Terms.{undef_term}
 use Rattle.ras_system.specs.declared.transition.Transition.{Transition}
 use Rattle.ras_system.specs.Systems.{SystemParts}
 use Rattle.ras_core.specs.declared.event.Event.{Event}
@@ -14,7 +13,7 @@ use Rattle.ras_core.specs.declared.work.Work.TheVariants as work
 use Rattle.ras_core.specs.CoreStates.{CoreParts}
 use Rattle.ras_core.specs.Events.{after}
 use Rattle.ras_core.specs.Journals.{replay_from, first_state}
-use Rattle.ras_vectors.specs.Words.{sort, constant, relation, param, same, apart, cube, set_var, database}
+use Rattle.ras_vectors.specs.Words.{sort, relation, param, same, apart, cube, set_var, database}
 use Rattle.ras_vectors.specs.Small.{plain_shape, two, x, unset, a, b, c, is_set, is_b, is_c, b_to_c}
 
 abbrev pub is_unset : Problem
@@ -148,16 +147,26 @@ grow = record { shape = plain_shape; initial = None ∷ []; transitions = pick �
 abbrev pub no_element : RawDb
 no_element = database (0 ∷ []) [] []
 
--- a term that names nothing
-abbrev pub nothing : Term
-nothing = constant_term (constant 3)
+-- from undef the variable goes to c; it starts at a, or at undef
+abbrev pub wake : SystemParts
+wake = record two { transitions = record b_to_c { guard = (same x unset ∷ []) ∷ [] } ∷ [] }
+
+abbrev pub wake_at_work : CoreParts
+wake_at_work = after (after (first_state wake []) (Admit (Goal 0) is_c)) (Claim 0)
+
+abbrev pub asleep : SystemParts
+asleep = record wake { initial = None ∷ [] }
+
+-- the states in which the variable is undef meet it, but it does not fit: the undef is of another sort
+abbrev pub misfit : Problem
+misfit = cube [] (same x (undef_term (sort 1)) ∷ [])
 
 -- every state meets it
 abbrev pub everything : Problem
 everything = cube [] []
 
 -- cubes before x = c that may not be entries: with states that do not lead there, with a literal or a row too many, with no
--- state, with a literal that does not fit
+-- state
 abbrev pub too_wide : Problem
 too_wide = not_a
 
@@ -169,6 +178,3 @@ row_too_many = cube (seats ∷ seats ∷ []) (same x b ∷ [])
 
 abbrev pub without_state : Problem
 without_state = cube [] (apart x x ∷ [])
-
-abbrev pub misfit : Problem
-misfit = cube [] (same x b ∷ same nothing nothing ∷ [])

@@ -2,10 +2,10 @@
 ghost use Rattle.std.specs.Prelude.{[], ◌∷◌};
 ghost use Rattle.ras_core.specs.declared.event.Event.TheVariants.{Claim, Admit, Skip, Drop as DropBy, Done, GiveBack, Hit, Spill, Idle};
 ghost use Rattle.ras_core.specs.declared.origin.Origin.TheVariants.{Goal, Step};
-ghost use Rattle.ras_core.specs.Events.{Allowed, BookkeepingAllows};
+ghost use Rattle.ras_core.specs.Events.{Allowed, BookkeepingAllows, after};
 ghost use Rattle.ras_core.specs.Journals.{first_state};
 ghost use Rattle.ras_vectors.specs.Small.{two, unset_is_unsafe, is_b, is_c};
-ghost use Rattle.ras_core_vectors.specs.Searches.{away, seated, two_at, two_last, away_at, dropped_at_work, seated_at_work, with_hit, with_spill, is_unset, not_a, everything, too_wide, literal_too_many, row_too_many, without_state, misfit};
+ghost use Rattle.ras_core_vectors.specs.Searches.{wake, wake_at_work, asleep, seated, two_at, two_last, away_at, dropped_at_work, seated_at_work, with_hit, with_spill, is_unset, not_a, everything, too_wide, literal_too_many, row_too_many, without_state, misfit};
 
 /// The entry is kept and free.
 pub fn claims_that_are_refused()
@@ -30,6 +30,7 @@ pub fn admits_that_are_out_of_order()
 /// state meets it, and some state meets it and neither an entry nor the base.
 pub fn admits_that_are_refused()
     ensures other_goal { ¬ Allowed two 2 (two_at 0) (Admit (Goal 0) is_b) }
+    ensures misfit { ¬ Allowed wake 2 wake_at_work (Admit (Step 0 0) misfit) }
     ensures too_wide { ¬ Allowed two 2 (two_at 2) (Admit (Step 0 0) too_wide) }
     ensures other_step { ¬ Allowed two 2 (two_at 2) (Admit (Step 0 1) is_b) }
     ensures rows { ¬ Allowed seated 2 seated_at_work (Admit (Step 0 0) row_too_many) }
@@ -48,7 +49,7 @@ pub fn skips_that_are_refused()
     ensures unknown_reason { ¬ BookkeepingAllows 2 (two_at 3) (Skip (Step 0 0) is_b (1 ∷ 2 ∷ [])) }
     ensures dropped_reason { ¬ BookkeepingAllows 2 (away_at 6) (Skip (Step 1 0) is_c (0 ∷ [])) }
     ensures other_goal { ¬ Allowed two 2 (two_at 3) (Skip (Goal 0) is_b (1 ∷ [])) }
-    ensures misfit { ¬ Allowed two 2 (two_at 3) (Skip (Step 0 0) misfit (1 ∷ [])) }
+    ensures misfit { ¬ Allowed wake 2 (after wake_at_work (Admit (Step 0 0) is_unset)) (Skip (Step 0 0) misfit (1 ∷ [])) }
     ensures too_wide { ¬ Allowed two 2 (two_at 3) (Skip (Step 0 0) is_c (0 ∷ [])) }
     ensures not_covered { ¬ Allowed two 2 (two_at 2) (Skip (Step 0 0) is_b (0 ∷ [])) }
 {}
@@ -87,6 +88,7 @@ pub fn hits_that_are_refused()
     ensures free { ¬ BookkeepingAllows 2 (two_at 1) (Hit (Step 0 0) is_b) }
     ensures dropped { ¬ BookkeepingAllows 2 dropped_at_work (Hit (Step 0 0) not_a) }
     ensures other_goal { ¬ Allowed two 2 (two_at 0) (Hit (Goal 0) everything) }
+    ensures misfit { ¬ Allowed asleep 2 wake_at_work (Hit (Step 0 0) misfit) }
     ensures too_wide { ¬ Allowed two 2 (two_at 2) (Hit (Step 0 0) everything) }
     ensures not_initial { ¬ Allowed two 2 (two_at 2) (Hit (Step 0 0) is_b) }
 {}
@@ -104,6 +106,7 @@ pub fn spills_that_are_out_of_order()
 /// The cube is as for an admission.
 pub fn spills_that_are_refused()
     ensures other_goal { ¬ Allowed two 0 (two_at 0) (Spill (Goal 0) is_b) }
+    ensures misfit { ¬ Allowed wake 1 wake_at_work (Spill (Step 0 0) misfit) }
     ensures too_wide { ¬ Allowed two 1 (two_at 2) (Spill (Step 0 0) too_wide) }
     ensures rows { ¬ Allowed seated 1 seated_at_work (Spill (Step 0 0) row_too_many) }
     ensures literals { ¬ Allowed two 1 (two_at 2) (Spill (Step 0 0) literal_too_many) }
