@@ -1,0 +1,10 @@
+pub mod Lists
+pub mod Covering
+pub mod Keeping
+pub mod Journals
+pub mod Kept
+pub mod Reaching
+pub mod Tight
+pub mod Recorded
+pub mod Booking
+pub mod Booked
