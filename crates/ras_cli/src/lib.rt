@@ -8,8 +8,6 @@ mod law;
 mod loading;
 mod outcome;
 mod putting;
-#[cfg(test)]
-mod tests;
 mod verify;
 mod words;
 

@@ -29,5 +29,3 @@ pub use origin::Origin;
 pub use sought::Sought;
 pub use work::Work;
 
-#[cfg(test)]
-mod tests;

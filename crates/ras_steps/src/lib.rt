@@ -31,5 +31,3 @@ pub use step_fault::StepFault;
 pub use stepping::step;
 pub use witness::Witness;
 
-#[cfg(test)]
-mod tests;

@@ -111,6 +111,3 @@ impl Plain for System {
             && self.goals.equal(&other.goals)
     }
 }
-
-#[cfg(test)]
-mod tests;

@@ -3,7 +3,5 @@
 #![tactic(auto)]
 
 mod putting;
-#[cfg(test)]
-mod tests;
 
 pub use putting::{put, put_counted, put_line, put_number, put_word, put_words};

@@ -7,8 +7,6 @@ mod formulas;
 mod law;
 mod put;
 mod runs;
-#[cfg(test)]
-mod tests;
 mod trees;
 
 pub use evidences::write_evidence;

@@ -1,6 +1,6 @@
 ghost use Rattle.ras_outside.specs.Told.{untold};
 
-use crate::verify_quiet;
+use ras_cli::verify_quiet;
 use ras_outside::{LoadFault, MemShelf, MemSink, Shelf};
 use std::alloc::{AllocError, Global};
 use std::process::Abort;

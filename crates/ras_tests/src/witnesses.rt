@@ -1,6 +1,6 @@
-use crate::Witness;
 use ras_database::Database;
 use ras_logic::{FunDecl, List, Plain, RawDb, Schema};
+use ras_steps::Witness;
 use ras_system::State;
 use std::alloc::Global;
 use std::test::Fail;

@@ -1,4 +1,4 @@
-use crate::{CoreState, Event, Origin};
+use ras_core::{CoreState, Event, Origin};
 use ras_logic::{Cube, List, Rows, Shared};
 use std::alloc::Global;
 use std::process::Abort;

@@ -1,5 +1,5 @@
-use crate::write_evidence;
 use ras_evidence::read_evidence;
+use ras_writing::write_evidence;
 use std::alloc::Global;
 
 /// Whether the text is read and written again.

@@ -1,7 +1,8 @@
-use super::*;
-use crate::bulk::{Assign, Bulk};
-use crate::update::{Target, Update};
-use ras_logic::{Base, FunDecl, Literal, RelId, Rows, Schema, SortId, Term};
+use ras_logic::{
+    Base, Cube, FunDecl, List, Literal, Plain, RelId, Rows, Schema, Shape, SortId, Term, VarId,
+};
+use ras_system::{Assign, Bulk, System, Target, Transition, Update};
+use std::alloc::{AllocError, Global};
 use std::test::Fail;
 
 fn undef(alloc: Global) -> Term {

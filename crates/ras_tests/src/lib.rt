@@ -1,0 +1,14 @@
+//! Tests of the calls of other crates: the answers of the commands that were worked out by hand, and calls that no command makes
+//! yet, each with enough memory. They stand apart, since a crate with tests is proved twice.
+#![tactic(auto)]
+
+#[cfg(test)]
+mod commands;
+#[cfg(test)]
+mod journals;
+#[cfg(test)]
+mod systems;
+#[cfg(test)]
+mod witnesses;
+#[cfg(test)]
+mod writing;
