@@ -1,5 +1,5 @@
 -- Facts that are asserted one after the other, and what their clash means.
-use Rattle.std.proofs.Common.{◌≡◌, ℕ, ◌+◌, ◌<◌, ◌≤◌, true, false, List, length, get_or, sym, ◌∙◌, subst, arith, ◌⊎◌, inl, inr, ⊎_elim}
+use Rattle.std.proofs.Common.{◌≡◌, ℕ, ◌+◌, ◌<◌, ◌≤◌, true, false, List, length, get_or, refl, sym, ◌∙◌, subst, arith, ◌⊎◌, inl, inr, ⊎_elim}
 use Rattle.std.specs.Prelude.{slice_get, Some, None, Contains, ◌↔◌}
 use Rattle.std.proofs.lemmas.List.Elements.{Contains-get_or}
 use Rattle.std.proofs.lemmas.Option.{slice_get_within, slice_get-get_or, get_or_from_slice_get, same_Some}
@@ -69,3 +69,13 @@ module _ (shape : ShapeParts) (facts : Problem) (fits : Fits shape facts) where
       λ h. let a = at-contains facts.literals l h in (first.asserted l).1 (a.0, omega (arith, a.1, ended), a.2),
     );
   }
+
+-- nothing is asserted yet
+pub has-none : (facts : Problem) (c : ClosureParts) → c.table.problem ≡ facts → c.clash ≡ None → ((l : Literal) → IsFactOf c l → ⊥)
+    → HasFirst c.table.shape facts 0 c
+has-none facts c problem_is no_clash none = record {
+  shape_is = refl;
+  problem_is = problem_is;
+  no_clash = no_clash;
+  asserted = λ l. (λ h. absurd (none l h), λ a. absurd (omega (arith, a.1)));
+}

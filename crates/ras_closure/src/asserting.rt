@@ -1,8 +1,9 @@
 ghost use Rattle.std.specs.Prelude.{◌≡◌, ◌↔◌, IsTrue, false, None, IfOk, MatchOption};
+ghost use Rattle.std.specs.Bool.{OnTrue, OnFalse};
 ghost use Rattle.ras_logic.specs.Formulas.{Fits};
 ghost use Rattle.ras_logic.specs.Clashes.{FactsClash};
 ghost use Rattle.ras_closure.specs.Closures.{IsNo, AreOfOneSort, AddsFact, FactsClashIn};
-ghost use Rattle.ras_closure.specs.Closings.{IsOfTable, AddsLiteral, IsClosureOf};
+ghost use Rattle.ras_closure.specs.Closings.{IsOfTable, AddsLiteral, HasFirst, IsClosureOf};
 
 use crate::closure::Closure;
 use crate::term_no::TermNo;
@@ -39,6 +40,21 @@ fn assert_fact(closure: &mut Closure, fact: &Literal) -> bool
     assert_terms(closure, left_no, right_no, fact.says_same())
 }
 
+/// Asserts the literals of a problem; whether they clash.
+fn assert_all(closure: &mut Closure, problem: &Problem) -> bool
+    requires fits { Fits closure.old.table.shape problem.now }
+    requires none { HasFirst closure.old.table.shape problem.now 0 closure.old }
+    ensures clash { OnTrue result (FactsClash closure.old.table.shape.schema problem.now.literals) }
+    ensures all { OnFalse result (IsClosureOf closure.old.table.shape problem.now closure.new) }
+{
+    for fact in problem.literals.as_slice() {
+        if assert_fact(closure, fact) {
+            return true;
+        }
+    }
+    false
+}
+
 impl Closure {
     /// The closure of a problem's literals; none where they clash. The problem fits the shape.
     pub fn of(
@@ -50,10 +66,8 @@ impl Closure {
         ensures { IfOk result (λ o. MatchOption o (FactsClash shape.now.schema problem.now.literals) (IsClosureOf shape.now problem.now)) }
     {
         let mut closure = Closure::with(alloc, shape, problem)?;
-        for fact in problem.literals.as_slice() {
-            if assert_fact(&mut closure, fact) {
-                return Ok(None);
-            }
+        if assert_all(&mut closure, problem) {
+            return Ok(None);
         }
         Ok(Some(closure))
     }

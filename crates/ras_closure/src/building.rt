@@ -9,7 +9,7 @@ use ras_logic::{Base, ConstId, List, Literal, Plain, Problem, Schema, Shape, Sor
 use std::alloc::{AllocError, Global};
 
 /// The number of a term in a list.
-pub fn position(terms: &List<Term>, term: &Term) -> Option<usize>
+fn position(terms: &List<Term>, term: &Term) -> Option<usize>
     ensures { MatchOption result ((i : ℕ) → IsAt terms.now i term.now → ⊥) (λ i. IsAt terms.now i term.now) }
 {
     let terms = terms.as_slice();

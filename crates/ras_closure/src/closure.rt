@@ -125,7 +125,7 @@ impl Closure {
     {
         self.table.known();
         let i = self.table.find(term)?;
-        Some(TermNo { n: i as u32 })
+        Some(TermNo { n: i })
     }
 
     /// Whether two terms have one sort, as an assertion of them requires.

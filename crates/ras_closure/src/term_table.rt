@@ -1,12 +1,12 @@
-ghost use Rattle.std.specs.Prelude.{◌≡◌, ◌≤◌, ℕ, ◌+◌, ◌<◌, length, slice_get, Some, MatchOption, IfOk, All};
+ghost use Rattle.std.specs.Prelude.{◌≡◌, ◌↔◌, ◌≤◌, ℕ, ◌+◌, ◌<◌, length, slice_get, Some, MatchOption, IfOk, IfSome, IsTrue, All};
 ghost use Rattle.ras_logic.specs.Formulas.{Fits};
-ghost use Rattle.ras_logic.specs.Terms.{sort_of as the_sort};
+ghost use Rattle.ras_logic.specs.Terms.{base_term, sort_of as the_sort};
 ghost use Rattle.ras_logic.specs.declared.term.Term.{Term};
-ghost use Rattle.ras_closure.specs.Numbered.{IsAt, IsTable, rigid_count};
+ghost use Rattle.ras_closure.specs.Numbered.{IsAt, IsImageLink, IsTable, rigid_count};
 
-use crate::building::{place_fixed, place_literals, position};
+use crate::building::{place_fixed, place_literals};
 use crate::link::Link;
-use ras_logic::{FunDecl, FunId, List, Plain, Problem, RelId, Shape, SortId, Term, sort_of};
+use ras_logic::{Base, FunDecl, FunId, List, Plain, Problem, RelId, Shape, SortId, Term, sort_of};
 use std::alloc::{AllocError, Global};
 use std::marker::Model;
 
@@ -192,10 +192,74 @@ impl TermTable {
         self.terms.len()
     }
 
-    /// The number of a term, if it is one of the table's.
-    pub fn find(&self, term: &Term) -> Option<usize>
+    /// The number of a base, if it is a term of the table: those of undef and of the constants are known, and each other
+    /// one is looked for from the end, where the terms of the literals are.
+    fn find_base(&self, base: Base) -> Option<u32>
+        ensures { MatchOption result ((i : ℕ) → IsAt self.now.terms i (base_term base) → ⊥) (λ i. IsAt self.now.terms i (base_term base)) }
+    {
+        self.known();
+        if let Some(number) = self.fixed_number(base) {
+            return Some(number);
+        }
+        for i in (0..self.len()).rev() {
+            if is_base(self.term(i), base) {
+                return Some(i as u32);
+            }
+        }
+        None
+    }
+
+    /// The number of a sort's undef or of a constant.
+    fn fixed_number(&self, base: Base) -> Option<u32>
+        ensures { IfSome result (λ i. IsAt self.now.terms i (base_term base)) }
+    {
+        self.known();
+        let sorts = self.shape.schema().sort_count();
+        match base {
+            Base::Undef(sort) if sort.n < sorts => Some(u32::from(sort.n)),
+            Base::Constant(c) if c.n < self.shape.schema().constant_count() => {
+                Some(u32::from(sorts) + u32::from(c.n))
+            }
+            _ => None,
+        }
+    }
+
+    /// The number of the image of a term by a function, if it is one of the table's.
+    fn find_image(&self, of: u32, function: FunId) -> Option<u32>
+        ensures { MatchOption result ((i : ℕ) → IsImageLink self.now.links i of function → ⊥) (λ i. IsImageLink self.now.links i of function) }
+    {
+        link_number(self.links.as_slice(), Link::Image { of, function })
+    }
+
+    /// The number of a term, if it is one of the table's. It compares no paths: it goes from the base to the images.
+    pub fn find(&self, term: &Term) -> Option<u32>
         ensures { MatchOption result ((i : ℕ) → IsAt self.now.terms i term.now → ⊥) (λ i. IsAt self.now.terms i term.now) }
     {
-        position(&self.terms, term)
+        self.known();
+        let mut at = self.find_base(term.base)?;
+        for function in term.path.as_slice() {
+            at = self.find_image(at, *function)?;
+        }
+        Some(at)
     }
+}
+
+/// Whether a term is a base alone.
+fn is_base(term: &Term, base: Base) -> bool
+    ensures { IsTrue result ↔ (term.now ≡ base_term base) }
+{
+    term.base == base && term.path.as_slice().is_empty()
+}
+
+/// The number of the term that is made like this.
+fn link_number(links: &[Link], link: Link) -> Option<u32>
+    requires { length links.now ≤ 4294967295 }
+    ensures { MatchOption result ((i : ℕ) → ¬ (slice_get links.now i ≡ Some link)) (λ i. slice_get links.now i ≡ Some link) }
+{
+    for (i, other) in links.iter().enumerate() {
+        if *other == link {
+            return Some(i as u32);
+        }
+    }
+    None
 }

@@ -1,30 +1,15 @@
-use Rattle.std.proofs.Common.{◌≡◌, ◌≤◌, length, refl}
-use Rattle.std.specs.Prelude.{slice_get, Some}
-use Rattle.std.proofs.lemmas.Option.{slice_get_read}
-use Rattle.ras_closure.proofs.FactsAsserted.{fact-of_table, first-clash, has-more, has-all}
+use Rattle.ras_closure.proofs.FactsAsserted.{has-none}
 use Rattle.ras_closure.proofs.closure.Closure.of.Goals as goal
 
-pub assert_fact-requires-clause-of_table : goal.assert_fact-requires-clause-of_table
-assert_fact-requires-clause-of_table c =
-    let at : slice_get c.as_slice-fact-items.result.now c.loop-fact.fact-index ≡ Some c.fact-item.result =
-    slice_get_read c.as_slice-fact-items.result.now (length c.as_slice-fact-items.result.now) c.loop-fact.fact-index c.fact-item.result refl c.loop-fact-test.true c.fact-item.is in
-    fact-of_table c.args.shape.now c.args.problem.now c.requires c.loop-fact.fact-index c.loop-fact.closure c.loop-fact.invariant c.loop-fact.fact-index c.fact-item.result (rw (← c.as_slice-fact-items.ensures.items) at)
+pub assert_all-requires-clause-fits : goal.assert_all-requires-clause-fits
+assert_all-requires-clause-fits c = rw c.in_ok-closure.ensures.shape c.requires
 
-pub returns-then-assert_fact : goal.returns-then-assert_fact
-returns-then-assert_fact c =
-    let at : slice_get c.as_slice-fact-items.result.now c.loop-fact.fact-index ≡ Some c.fact-item.result =
-    slice_get_read c.as_slice-fact-items.result.now (length c.as_slice-fact-items.result.now) c.loop-fact.fact-index c.fact-item.result refl c.loop-fact-test.true c.fact-item.is in
-    first-clash c.args.shape.now c.args.problem.now c.requires c.loop-fact.fact-index c.loop-fact.closure c.assert_fact.new.closure c.fact-item.result c.loop-fact.invariant
-    (rw (← c.as_slice-fact-items.ensures.items) at) c.assert_fact.ensures.added (c.assert_fact.ensures.clash.0 c.if-assert_fact.true)
+pub assert_all-requires-clause-none : goal.assert_all-requires-clause-none
+assert_all-requires-clause-none c =
+    has-none c.args.problem.now c.in_ok-closure.closure c.in_ok-closure.ensures.problem c.in_ok-closure.ensures.no_clash c.in_ok-closure.ensures.none
 
-pub loop-fact-preserved : goal.loop-fact-preserved
-loop-fact-preserved c =
-    let at : slice_get c.as_slice-fact-items.result.now c.loop-fact.fact-index ≡ Some c.fact-item.result =
-    slice_get_read c.as_slice-fact-items.result.now (length c.as_slice-fact-items.result.now) c.loop-fact.fact-index c.fact-item.result refl c.loop-fact-test.true c.fact-item.is in
-    has-more c.args.shape.now c.args.problem.now c.requires c.loop-fact.fact-index c.loop-fact.closure c.assert_fact.new.closure c.fact-item.result c.loop-fact.invariant
-    (rw (← c.as_slice-fact-items.ensures.items) at) c.assert_fact.ensures.added (c.assert_fact.ensures.none c.if-assert_fact.false)
+pub returns-then-assert_all : goal.returns-then-assert_all
+returns-then-assert_all c = rw (← c.in_ok-closure.ensures.shape) (rw c.if-assert_all.true at c.assert_all.ensures.clash)
 
 pub returns : goal.returns
-returns c =
-    let ended : length c.args.problem.now.literals ≤ c.loop-fact.fact-index = rw (← c.as_slice-fact-items.ensures.items) c.loop-fact-test.false in
-    has-all c.args.shape.now c.args.problem.now c.requires c.loop-fact.fact-index c.loop-fact.closure ended c.loop-fact.invariant
+returns c = rw (← c.in_ok-closure.ensures.shape) (rw c.if-assert_all.false at c.assert_all.ensures.all)

@@ -1,5 +1,0 @@
-use Rattle.ras_closure.specs.Closings.{HasFirst}
-use Rattle.ras_closure.proofs.closure.Closure.of.Given as goal
-
-abbrev pub invariant-loop-fact : goal.invariant-loop-fact
-invariant-loop-fact l = HasFirst l.shape l.problem l.fact-index l.closure
