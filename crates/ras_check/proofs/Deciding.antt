@@ -15,9 +15,8 @@ use Rattle.ras_logic.specs.declared.literal.Literal.TheVariants.{Equal}
 use Rattle.ras_logic.specs.Schemas.{SchemaParts, HasSorts, IsSchema}
 use Rattle.ras_logic.specs.Terms.{constant_term, undef_term, image_term}
 use Rattle.ras_logic.specs.Clashes.{sides, IsPrefixOf, IsTerm, of_literals, a_constant, an_undef, Together, reflexive, symmetric, transitive, stated, same_images, image_of_undef, only_undef, stated_apart, two_constants, constant_undef, FactsClash}
-use Rattle.ras_refute.proofs.Tables.{contains-here, contains-later, contains_cases}
+use Rattle.ras_logic.proofs.Elements.{contains-here, contains-later, contains_cases, from_known}
 use Rattle.ras_refute.proofs.Entries.{same_term}
-use Rattle.ras_refute.proofs.Soundness.{from_known}
 use Rattle.ras_violation.proofs.Decisions.{Decided, by_both, decided_both, decided_some}
 
 decided_or : {P Q : Type 0} → Decided P → Decided Q → Decided (P ⊎ Q)

@@ -40,7 +40,8 @@ use Rattle.ras_cli.specs.declared.outcome.Outcome.{Outcome}
 use Rattle.ras_cli.specs.declared.outcome.Outcome.TheVariants.{Done, NoSystem, NoBundle, NoEvidence, Invalid, TooLong, NotRead, NoCommand}
 use Rattle.ras_cli.specs.declared.outcome.Reason.TheVariants.{Fault, Unbuilt, NoRun}
 use Rattle.ras_cli.specs.Words.{Request, check_bundle, print, check, replay}
-use Rattle.ras_cli.specs.Answers.{status_of, text_of, line, numbered, bundle_word, reason_word}
+use Rattle.ras_text.specs.Pieces.{line}
+use Rattle.ras_cli.specs.Answers.{status_of, text_of, numbered, bundle_word, reason_word}
 use Rattle.ras_cli.specs.Outcomes.{IsVerdict, IsReplay, IsPrint, OfFileFault, OfEvidenceFault, OfBundleError, EitherOf, BundleComesTo, FileComesTo, EvidenceComesTo}
 use Rattle.ras_cli.specs.Loads.{longest_file, longest_evidence, RequestComesTo, IsLoaded, Loads, Comes, LoadsTold, ToldToComeTo}
 use Rattle.ras_cli.proofs.Naming.{one_asked}
