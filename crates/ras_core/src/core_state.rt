@@ -2,7 +2,7 @@ ghost use Rattle.std.specs.Prelude.{◌≡◌, ◌↔◌, ℕ, ◌<◌, ◌≤�
 ghost use Rattle.ras_core.specs.declared.work.Work.TheVariants as work;
 ghost use Rattle.ras_core.specs.declared.sought.Sought.TheVariants as sought;
 ghost use Rattle.ras_core.specs.declared.event.Event.TheVariants as event;
-ghost use Rattle.ras_core.specs.CoreStates.{EntryParts, IsEntry, IsKeptEntry, IsAt, IsQuiet, start, submit, admit};
+ghost use Rattle.ras_core.specs.CoreStates.{EntryParts, IsEntry, IsKeptEntry, IsAt, IsQuiet, start, changed, dropped, submit, admit};
 ghost use Rattle.ras_core.specs.Events.{IsOpen, AreKept, BookkeepingAllows};
 ghost use Rattle.ras_core.specs.Bookkeeping.{with_event, IsSought, NoneBefore};
 
@@ -242,9 +242,9 @@ impl CoreState {
     }
 
     /// The entry, which is kept, is no longer kept.
-    pub fn drop_by(&mut self, entry: u32, by: u32)
+    pub fn drop_entry(&mut self, entry: u32)
         requires { (e : EntryParts) × IsKeptEntry self.old.state entry e }
-        ensures { self.new ≡ with_event self.old (event.Drop entry by) }
+        ensures { self.new ≡ record self.old { state = changed dropped entry self.old.state } }
     {
         drop_at(&mut self.entries, entry as usize);
     }
@@ -312,7 +312,7 @@ impl CoreState {
                 return self.admit(*origin, cube.another()?, cube.another()?);
             }
             Event::Skip { origin, cube, .. } => return self.submit(*origin, cube.another()?),
-            Event::Drop { entry, by } => self.drop_by(*entry, *by),
+            Event::Drop { entry, .. } => self.drop_entry(*entry),
             Event::Done { entry } => self.finish(*entry),
             Event::GiveBack { entry } => self.give_back(*entry),
             Event::Hit { origin, cube } => self.keep_hit(*origin, cube.another()?),

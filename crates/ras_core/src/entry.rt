@@ -42,24 +42,28 @@ impl Entry {
         }
     }
 
+    /// The cube that was admitted.
     pub fn cube(&self) -> &Shared<Cube>
         ensures { result.now ≡ self.now.cube }
     {
         &self.cube
     }
 
+    /// Where the cube comes from.
     pub fn origin(&self) -> Origin
         ensures { result ≡ self.now.origin }
     {
         self.origin
     }
 
+    /// The cubes that were admitted or skipped with this entry as their origin, in order.
     pub fn submissions(&self) -> &[Shared<Cube>]
         ensures { result.now ≡ self.now.submissions }
     {
         self.submissions.as_slice()
     }
 
+    /// Whether it was not dropped.
     pub fn is_kept(&self) -> bool
         ensures { IsTrue result ↔ (self.now.kept ≡ true) }
     {
@@ -83,6 +87,7 @@ impl Entry {
         }
     }
 
+    /// From now on the work on it is this.
     pub fn set_work(&mut self, work: Work)
         ensures { self.new ≡ with_work work self.old }
     {

@@ -1,7 +1,7 @@
 use Rattle.std.proofs.Common.{ap}
 use Rattle.ras_core.specs.Bookkeeping.{SearchParts}
 use Rattle.ras_core.proofs.Booked.{booked_drop}
-use Rattle.ras_core.proofs.core_state.CoreState.drop_by.Goals as goal
+use Rattle.ras_core.proofs.core_state.CoreState.drop_entry.Goals as goal
 
 pub invariant_of-self : goal.invariant_of-self
 invariant_of-self c =
