@@ -1,8 +1,10 @@
 pub mod AllSteps
-pub mod Chains
 pub mod Clashes
 pub mod Closing
 pub mod Columns
+pub mod Elements
+pub mod Leading
 pub mod Preorder
 pub mod Rounds
 pub mod TermSorts
+pub mod Walks
