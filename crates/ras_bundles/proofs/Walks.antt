@@ -6,7 +6,7 @@ use Rattle.std.proofs.lemmas.List.{take-map}
 use Rattle.ras_logic.specs.declared.function.FunDecl.{FunDecl}
 use Rattle.ras_logic.specs.Schemas.{HasSorts, IsAcyclic}
 use Rattle.ras_logic.specs.SchemaFaults.{HasCycle}
-use Rattle.ras_logic.proofs.Elements.{map-at, map_from}
+use Rattle.ras_logic.proofs.ByPlace.{map-at, map_from}
 use Rattle.ras_logic.proofs.Walks as walks
 use Rattle.ras_logic.proofs.Walks.{lead}
 use Rattle.ras_bundles.specs.declared.system_lines.FunctionLine.{FunctionLine}

@@ -1,8 +1,8 @@
 pub mod AllSteps
+pub mod ByPlace
 pub mod Clashes
 pub mod Closing
 pub mod Columns
-pub mod Elements
 pub mod Leading
 pub mod Preorder
 pub mod Rounds

@@ -13,7 +13,7 @@ use Rattle.ras_logic.specs.Schemas.{HasSorts, IsLinked, IsChain, IsAcyclic}
 use Rattle.ras_logic.specs.SchemaFaults.{end_of, HasCycle, IsFirstCycle}
 use Rattle.ras_logic.specs.Leading.{leads}
 use Rattle.ras_logic.proofs.Rounds.{HasLongChain-cycle, acyclic-no_cycle}
-use Rattle.ras_logic.proofs.Elements.{contains-at, at_contains, take_at, at_take, one_value, no_true, not_true, or_first, or_second, any_at}
+use Rattle.ras_logic.proofs.ByPlace.{contains-at, at_contains, take_at, at_take, one_value, no_true, not_true, or_first, or_second, any_at}
 
 -- linked functions from a sort to a sort
 abbrev pub Walk : List FunDecl → List FunDecl → SortId → SortId → Type 0

@@ -8,7 +8,7 @@ use Rattle.std.proofs.lemmas.Cmp.{nat_list_eq_equiv}
 use Rattle.std.proofs.lemmas.Map.Views.{list_any-from_Contains, Contains-from_any}
 use Rattle.std.proofs.lemmas.Slice.Eq.{bytes_eq-Decides}
 use Rattle.std.proofs.lemmas.Bool.{leb-true}
-use Rattle.ras_logic.proofs.Elements.{at_contains, contains-at, not_true, take_at}
+use Rattle.ras_logic.proofs.ByPlace.{at_contains, contains-at, not_true, take_at}
 use Rattle.ras_syntax.specs.Grammar.{Text}
 use Rattle.ras_names.specs.Lists.{HasNumber}
 use Rattle.ras_names.specs.Checks.{is_among}

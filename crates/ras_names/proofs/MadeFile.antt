@@ -9,7 +9,7 @@ use Rattle.ras_logic.specs.declared.problem.Problem.{Problem}
 use Rattle.ras_logic.specs.Schemas.{IsSort, HasSorts, IsSchema}
 use Rattle.ras_logic.specs.Shapes.{ShapeParts, IsShape}
 use Rattle.ras_logic.specs.Formulas.{Fits, IsCube}
-use Rattle.ras_logic.proofs.Elements.{map_from, one_value}
+use Rattle.ras_logic.proofs.ByPlace.{map_from, one_value}
 use Rattle.ras_system.specs.declared.transition.Transition.{Transition}
 use Rattle.ras_system.specs.Systems.{SystemParts, IsTransition}
 use Rattle.ras_system.specs.SystemFaults.{HasTransitionLimits, HasGoalLimits}

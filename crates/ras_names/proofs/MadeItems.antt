@@ -15,7 +15,7 @@ use Rattle.ras_logic.specs.declared.problem.Problem.{Problem}
 use Rattle.ras_logic.specs.Schemas.{IsSort}
 use Rattle.ras_logic.specs.Shapes.{ShapeParts, IsRelation}
 use Rattle.ras_logic.specs.Formulas.{Fits, IsNoParam, HasNoParam, IsCube}
-use Rattle.ras_logic.proofs.Elements.{at_take, map-at, map_from, no_true, one_value}
+use Rattle.ras_logic.proofs.ByPlace.{at_take, map-at, map_from, no_true, one_value}
 use Rattle.ras_system.specs.declared.bulk.Bulk.{Bulk}
 use Rattle.ras_system.specs.declared.transition.Transition.{Transition}
 use Rattle.ras_system.specs.Systems.{BulkFits, AreInGroups, IsTransition}

@@ -13,7 +13,7 @@ use Rattle.ras_logic.specs.Shapes.{ShapeParts, columns_of}
 use Rattle.ras_logic.specs.Terms.{sort_of, sort_of_base}
 use Rattle.ras_logic.specs.Formulas.{LiteralFits}
 use Rattle.ras_logic.proofs.TermSorts.{and_then_from}
-use Rattle.ras_logic.proofs.Elements.{any_at, at_take, map-at, map_from, no_true, one_value}
+use Rattle.ras_logic.proofs.ByPlace.{any_at, at_take, map-at, map_from, no_true, one_value}
 use Rattle.ras_system.specs.declared.update.Target.{Target}
 use Rattle.ras_system.specs.declared.update.Target.TheVariants as target
 use Rattle.ras_system.specs.declared.update.Update.{Update}

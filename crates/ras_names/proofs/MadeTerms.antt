@@ -44,7 +44,7 @@ use Rattle.ras_names.proofs.NameLists.{functions_are, constants_are, vars_are, r
 use Rattle.ras_names.proofs.PassTerms.{IsDeclared, names, IsSortText, is_sort_text, IsFound, declared_found, here, checked, RowsDenote, ParamsDenote, cell-good, plain-good, plain_texts}
 use Rattle.ras_names.proofs.MadeNames.{within_limit}
 use Rattle.std.proofs.lemmas.Map.Views.{Contains-from_any}
-use Rattle.ras_logic.proofs.Elements.{contains-at, map-at, map_from}
+use Rattle.ras_logic.proofs.ByPlace.{contains-at, map-at, map_from}
 
 -- a name that is among others has a number
 pub number_of : (names : List Text) (name : Text) → is_among names name ≡ true → (k : ℕ) × HasNumber names name k

@@ -12,7 +12,7 @@ use Rattle.ras_logic.specs.declared.function.FunDecl.{FunDecl}
 use Rattle.ras_logic.specs.Schemas.{IsChain}
 use Rattle.ras_logic.proofs.Rounds.{acyclic-no_cycle}
 use Rattle.ras_logic.proofs.Walks.{Walk, walked, either_true}
-use Rattle.ras_logic.proofs.Elements.{at_contains, map-at, not_true, take_at}
+use Rattle.ras_logic.proofs.ByPlace.{at_contains, map-at, not_true, take_at}
 use Rattle.ras_system.specs.Systems.{SystemParts}
 use Rattle.ras_syntax.specs.Grammar.{Text}
 use Rattle.ras_names.specs.declared.names.Names.{Names}

@@ -12,7 +12,7 @@ use Rattle.ras_logic.specs.declared.function.FunDecl.{FunDecl}
 use Rattle.ras_logic.specs.Schemas.{HasSorts, IsChain, IsAcyclic}
 use Rattle.ras_logic.specs.SchemaFaults.{end_of, HasCycle}
 use Rattle.ras_logic.proofs.Walks.{Walk, walked, acyclic_from, way_back}
-use Rattle.ras_logic.proofs.Elements.{all-from, any_at, at_contains, at_take, contains-at, map_from, no_true, one_value, or_first, or_second, take_at}
+use Rattle.ras_logic.proofs.ByPlace.{all-from, any_at, at_contains, at_take, contains-at, map_from, no_true, one_value, or_first, or_second, take_at}
 use Rattle.ras_syntax.specs.Grammar.{Text}
 use Rattle.ras_names.specs.Lists.{HasNumber, OneByOne}
 use Rattle.ras_names.specs.FileNames.{names_of}

@@ -3,7 +3,7 @@ use Rattle.std.proofs.Common.{◌≡◌, ℕ, zero, suc, ◌+◌, ◌<◌, List,
 use Rattle.std.specs.Prelude.{slice_get, Some, Contains, ◌⊎◌}
 use Rattle.std.proofs.lemmas.Option.{slice_get_within, get_or_from_slice_get}
 use Rattle.std.proofs.lemmas.Bool.{cases_lt}
-use Rattle.ras_logic.proofs.Elements.{at_contains}
+use Rattle.ras_logic.proofs.ByPlace.{at_contains}
 use Rattle.ras_syntax.specs.Grammar.{Text}
 use Rattle.ras_names.specs.Lists.{HasNumber, AreDifferent}
 

@@ -11,7 +11,7 @@ use Rattle.ras_logic.specs.declared.term.Term.{Term}
 use Rattle.ras_logic.specs.Shapes.{ShapeParts}
 use Rattle.ras_logic.specs.Terms.{base_term, image_term, sort_of, sort_of_base, sort_after, sort_along}
 use Rattle.ras_logic.proofs.TermSorts.{and_then_through, and_then_from, sort_after-step, sort_along-append, undef-sort}
-use Rattle.ras_logic.proofs.Elements.{one_value}
+use Rattle.ras_logic.proofs.ByPlace.{one_value}
 use Rattle.ras_syntax.specs.Grammar as grammar
 use Rattle.ras_syntax.specs.Grammar.{Text}
 use Rattle.ras_names.specs.declared.names.RelNames.{RelNames}

@@ -9,7 +9,7 @@ use Rattle.ras_logic.specs.declared.term.Base.TheVariants as base
 use Rattle.ras_logic.specs.Shapes.{ShapeParts, columns_of}
 use Rattle.ras_logic.specs.Formulas.{LiteralFits}
 use Rattle.ras_logic.proofs.TermSorts.{and_then_through}
-use Rattle.ras_logic.proofs.Elements.{at_contains, map-at, map_from, one_value, take_at}
+use Rattle.ras_logic.proofs.ByPlace.{at_contains, map-at, map_from, one_value, take_at}
 use Rattle.ras_system.specs.declared.bulk.Assign.{Assign}
 use Rattle.ras_system.specs.declared.bulk.Bulk.{Bulk}
 use Rattle.ras_system.specs.declared.transition.Transition.{Transition}

@@ -7,7 +7,7 @@ use Rattle.ras_logic.specs.declared.ids.SortId.{SortId}
 use Rattle.ras_logic.specs.declared.ids.ConstId.{ConstId}
 use Rattle.ras_logic.specs.declared.problem.Problem.{Problem}
 use Rattle.ras_logic.specs.Formulas.{LiteralFits, Fits}
-use Rattle.ras_logic.proofs.Elements.{map-at, map_from}
+use Rattle.ras_logic.proofs.ByPlace.{map-at, map_from}
 use Rattle.ras_system.specs.Systems.{SystemParts, IsTransition}
 use Rattle.ras_system.specs.SystemFaults.{HasTransitionLimits, HasGoalLimits}
 use Rattle.ras_syntax.specs.Grammar as grammar

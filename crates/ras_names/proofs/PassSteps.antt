@@ -14,7 +14,7 @@ use Rattle.ras_logic.specs.declared.literal.Literal.{Literal}
 use Rattle.ras_logic.specs.Shapes.{ShapeParts}
 use Rattle.ras_logic.specs.Terms.{sort_of}
 use Rattle.ras_logic.specs.Formulas.{LiteralFits}
-use Rattle.ras_logic.proofs.Elements.{map-at, map_from, not_true, take_at}
+use Rattle.ras_logic.proofs.ByPlace.{map-at, map_from, not_true, take_at}
 use Rattle.ras_system.specs.declared.update.Target.{Target}
 use Rattle.ras_system.specs.declared.update.Target.TheVariants as target
 use Rattle.ras_system.specs.declared.update.Update.{Update}

@@ -15,7 +15,7 @@ use Rattle.ras_logic.specs.Shapes.{ShapeParts, columns_of}
 use Rattle.ras_logic.specs.Terms.{base_term, sort_of, sort_of_base, sort_along}
 use Rattle.ras_logic.specs.Formulas.{LiteralFits}
 use Rattle.ras_logic.proofs.TermSorts.{and_then_through}
-use Rattle.ras_logic.proofs.Elements.{map-at, map_from, one_value}
+use Rattle.ras_logic.proofs.ByPlace.{map-at, map_from, one_value}
 use Rattle.ras_system.specs.Systems.{SystemParts}
 use Rattle.ras_syntax.specs.Grammar as grammar
 use Rattle.ras_syntax.specs.Grammar.{Text}

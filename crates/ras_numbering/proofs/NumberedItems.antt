@@ -8,7 +8,7 @@ use Rattle.ras_logic.specs.declared.literal.Literal.{Literal}
 use Rattle.ras_logic.specs.declared.problem.Problem.{Problem}
 use Rattle.ras_logic.specs.Shapes.{ShapeParts}
 use Rattle.ras_logic.specs.Formulas.{LiteralFits, Fits}
-use Rattle.ras_logic.proofs.Elements.{map-at}
+use Rattle.ras_logic.proofs.ByPlace.{map-at}
 use Rattle.ras_system.specs.declared.update.Update.{Update}
 use Rattle.ras_system.specs.declared.bulk.Bulk.{Bulk}
 use Rattle.ras_system.specs.declared.transition.Transition.{Transition}

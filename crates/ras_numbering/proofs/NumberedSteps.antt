@@ -9,7 +9,7 @@ use Rattle.ras_logic.specs.declared.literal.Literal.{Literal}
 use Rattle.ras_logic.specs.Shapes.{ShapeParts, columns_of}
 use Rattle.ras_logic.specs.Formulas.{LiteralFits}
 use Rattle.ras_logic.proofs.TermSorts.{and_then_through}
-use Rattle.ras_logic.proofs.Elements.{one_value}
+use Rattle.ras_logic.proofs.ByPlace.{one_value}
 use Rattle.ras_system.specs.declared.update.Target.{Target}
 use Rattle.ras_system.specs.declared.update.Target.TheVariants as target
 use Rattle.ras_system.specs.declared.update.Update.{Update}

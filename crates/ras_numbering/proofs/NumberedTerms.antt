@@ -17,7 +17,7 @@ use Rattle.ras_logic.specs.Shapes.{ShapeParts}
 use Rattle.ras_logic.specs.Terms.{base_term, image_term, sort_of}
 use Rattle.ras_logic.specs.Formulas.{LiteralFits}
 use Rattle.ras_logic.proofs.TermSorts.{undef-sort}
-use Rattle.ras_logic.proofs.Elements.{map-at, map_from, one_value}
+use Rattle.ras_logic.proofs.ByPlace.{map-at, map_from, one_value}
 use Rattle.ras_syntax.specs.Grammar as grammar
 use Rattle.ras_syntax.specs.Grammar.{Text}
 use Rattle.ras_names.specs.declared.names.RelNames.{RelNames}

@@ -5,7 +5,7 @@ use Rattle.std.proofs.lemmas.List.Folds.{flat_map-map}
 use Rattle.ras_logic.specs.declared.ids.SortId.{SortId}
 use Rattle.ras_logic.specs.declared.ids.ConstId.{ConstId}
 use Rattle.ras_logic.specs.declared.function.FunDecl.{FunDecl}
-use Rattle.ras_logic.proofs.Elements.{map-at}
+use Rattle.ras_logic.proofs.ByPlace.{map-at}
 use Rattle.ras_system.specs.Systems.{SystemParts}
 use Rattle.ras_syntax.specs.Grammar as grammar
 use Rattle.ras_syntax.specs.Grammar.{Text}

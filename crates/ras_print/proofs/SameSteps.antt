@@ -4,7 +4,7 @@ use Rattle.std.specs.Prelude.{slice_get, Some, AllPairs, nat_eq}
 use Rattle.ras_logic.specs.declared.ids.SortId.{SortId}
 use Rattle.ras_logic.specs.declared.ids.RelId.{RelId}
 use Rattle.ras_logic.specs.declared.problem.Problem.{Problem}
-use Rattle.ras_logic.proofs.Elements.{map-at, map_from}
+use Rattle.ras_logic.proofs.ByPlace.{map-at, map_from}
 use Rattle.ras_system.specs.declared.bulk.Bulk.{Bulk}
 use Rattle.ras_system.specs.declared.transition.Transition.{Transition}
 use Rattle.ras_syntax.specs.Grammar as grammar
