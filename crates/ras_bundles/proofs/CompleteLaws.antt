@@ -41,7 +41,8 @@ use Rattle.ras_bundles.specs.Numbers.{function_named, sort_named, constant_named
 use Rattle.ras_bundles.specs.Bundles.{IsPlainSystem}
 use Rattle.ras_bundles.specs.Checks.{Check, first_of, count_checks, function_checks, constant_checks, is_known_initial, is_sorted_initial, variable_checks, cube_checks, guard_checks, update_checks, each, transition_checks, shape_checks, step_checks, line_checks, first_from, first_fault}
 use Rattle.ras_bundles.specs.Judging.{Judges, HasSmallSorts}
-use Rattle.ras_bundles.proofs.Places.{map_from, take-map, all-from, one_value, no_true, not_true}
+use Rattle.std.proofs.lemmas.List.{take-map}
+use Rattle.ras_logic.proofs.ByPlace.{map_from, all-from, one_value, no_true, not_true}
 use Rattle.ras_bundles.proofs.LineLaws.{AllPass, none_fails, passes_both, each_passes, lists_pass, checks_pass}
 use Rattle.ras_bundles.proofs.Walks.{acyclic}
 use Rattle.ras_bundles.proofs.NamedLaws.{IsBare, HasBareGuard, numbers_back}

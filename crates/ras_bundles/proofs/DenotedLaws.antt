@@ -30,7 +30,7 @@ use Rattle.ras_bundles.specs.Numbers.{function_named, sort_named, constant_named
 use Rattle.ras_bundles.specs.Bundles.{IsPlainSystem}
 use Rattle.ras_bundles.specs.Checks.{first_from, shape_checks, step_checks}
 use Rattle.ras_bundles.specs.Judging.{Judges, AnswersFirstFault, IsShort, HasShortSorts, HasShortSort, IsShortInitial, HasShortInitial, HasShortTarget, HasShortTargets}
-use Rattle.ras_bundles.proofs.Places.{map-at, all-from}
+use Rattle.ras_logic.proofs.ByPlace.{map-at, all-from}
 use Rattle.ras_bundles.proofs.NamedLaws.{schema_never, shape_never}
 use Rattle.ras_bundles.proofs.CompleteLaws.{GoodShape, good_shape, judged_pass, IsDenoted, denoted_by}
 

@@ -1,7 +1,5 @@
 pub mod SystemLaws
 pub mod LineLaws
-pub mod LeadLaws
-pub mod Places
 pub mod Walks
 pub mod NamedLaws
 pub mod CompleteLaws

@@ -28,7 +28,8 @@ use Rattle.ras_bundles.specs.declared.system_lines.SystemLines.{SystemLines}
 use Rattle.ras_bundles.specs.Numbers.{disjunct_cube, transition_numbers, numbers_of, function_named, sort_named, constant_named, variable_sort, variable_initial, literals_of, update_named, transition_named, shape_named, system_named}
 use Rattle.ras_bundles.specs.Bundles.{IsPlainSystem}
 use Rattle.ras_bundles.specs.Checks.{first_of, count_checks, function_checks, constant_checks, is_known_initial, is_sorted_initial, variable_checks, cube_checks, guard_checks, update_checks, each, transition_checks, shape_checks, step_checks, line_checks, first_fault}
-use Rattle.ras_bundles.proofs.Places.{map-at, take-map}
+use Rattle.std.proofs.lemmas.List.{take-map}
+use Rattle.ras_logic.proofs.ByPlace.{map-at}
 use Rattle.ras_bundles.proofs.LineLaws.{AllPass, none_first, both_pass, all_pass, pass_lists, pass_checks}
 use Rattle.ras_bundles.proofs.Walks.{no_cycle_closed}
 use Rattle.ras_bundles.proofs.NamedLaws.{named_back}

@@ -2,6 +2,7 @@
 use Rattle.std.specs.Prelude.{ℕ, zero, suc, Bool, true, not, ◌&&◌, ◌||◌, List, [], ◌∷◌, ◌++◌, length, map, flat_map, take, slice_get, nat_eq, nat_lt, Option, Some, None, if◌then◌else◌}
 use Rattle.std.specs.List.{list_any, list_all, enumerate_from}
 use Rattle.ras_logic.specs.declared.problem.Problem.{Problem}
+use Rattle.ras_logic.specs.Leading as lead
 use Rattle.ras_logic.specs.Shapes.{ShapeParts}
 use Rattle.ras_system.specs.Systems.{update_literal}
 use Rattle.ras_system.specs.Known.{is_known_literal, is_well_sorted, is_one_sort}
@@ -35,8 +36,7 @@ count_checks limit n = check Limit (nat_lt limit n) ∷ []
 
 -- none or more of the functions, at most n, lead one after the other from a sort to a sort
 abbrev pub leads : List FunctionLine → ℕ → ℕ → ℕ → Bool
-leads functions zero from to = nat_eq from to
-leads functions (suc n) from to = nat_eq from to || list_any (λ (f : FunctionLine). nat_eq f.source from && leads functions n f.target to) functions
+leads = lead.leads nat_eq (λ (f : FunctionLine). f.source) (λ (f : FunctionLine). f.target)
 
 -- The functions above lead from the target of the function back to its source. Without a cycle among them they are fewer
 -- than the sorts.

@@ -4,7 +4,6 @@
 #![tactic(auto)]
 
 mod bundle;
-mod cycles;
 mod denoted;
 mod fault;
 mod grammar;

@@ -5,10 +5,10 @@ ghost use Rattle.ras_bundles.specs.declared.system_lines.VariableLine.{VariableL
 ghost use Rattle.ras_bundles.specs.Checks.{Check, first_of, count_checks, function_checks, constant_checks, variable_checks, is_known_initial as known_initial, is_sorted_initial as sorted_initial, each, shape_checks};
 ghost use Rattle.ras_bundles.specs.Judging.{Judges, HasSmallSorts};
 
-use crate::cycles::leads;
 use crate::fault::{BundleError, BundleKind};
 use crate::judging::{count_fault, judged};
 use crate::system_lines::SystemLines;
+use ras_logic::leads;
 
 /// What is wrong in the line of a function, where nothing is in the lines of those above it.
 fn function_fault(lines: &SystemLines, n: usize) -> Option<BundleKind>
@@ -22,7 +22,12 @@ fn function_fault(lines: &SystemLines, n: usize) -> Option<BundleKind>
     if !(f.source < lines.sorts && f.target < lines.sorts) {
         return Some(BundleKind::Range);
     }
-    if leads(&functions[..n], lines.sorts, f.target, f.source) {
+    if leads(
+        &functions[..n],
+        lines.sorts as usize,
+        f.target as usize,
+        f.source as usize,
+    ) {
         return Some(BundleKind::Cycle);
     }
     None

@@ -1,4 +1,4 @@
-use ras_logic::{Cube, List, Problem, Term};
+use ras_logic::{Arrow, Cube, List, Problem, Term};
 
 /// `function S T total` or `function S T nullable`: the numbers of two sorts.
 #[derive(Clone, Copy, Debug, PartialEq, Eq)]
@@ -6,6 +6,20 @@ pub struct FunctionLine {
     pub source: u32,
     pub target: u32,
     pub total: bool,
+}
+
+impl Arrow for FunctionLine {
+    ghost source = { λ f. f.source };
+
+    ghost target = { λ f. f.target };
+
+    fn source(&self) -> usize {
+        self.source as usize
+    }
+
+    fn target(&self) -> usize {
+        self.target as usize
+    }
 }
 
 /// `variable S none` or `variable S C`: the numbers of a sort and of the initial constant.

@@ -1,11 +1,10 @@
 -- What is known of an answer, with or without an error.
-use Rattle.std.proofs.Common.{◌≡◌, List, ◌++◌, subst}
-use Rattle.std.specs.Prelude.{None, Result, Ok, Err, IfOk, OnOk}
+use Rattle.std.proofs.Common.{◌≡◌, List, subst}
+use Rattle.std.specs.Prelude.{Result, Ok, Err, IfOk, OnOk}
 use Rattle.ras_names.specs.Checks.{Check}
 use Rattle.ras_names.proofs.Passing.{Passes}
 use Rattle.ras_elab.specs.declared.fault.SpecError.{SpecError}
 use Rattle.ras_elab.specs.Answering.{Answers}
-use Rattle.ras_elab.proofs.Following.{first_follows, first_stays}
 
 pub if_ok-to : {A E : Type 0} {P : A → Type 0} (Q : A → Type 0) (r : Result A E) → ((a : A) → P a → Q a) → IfOk r P → IfOk r Q
 if_ok-to Q (Ok a) f h = f a h

@@ -1,25 +1,25 @@
 -- The checks of a function, in the words of what was read above it.
-use Rattle.std.proofs.Common.{◌≡◌, ℕ, ◌<◌, ◌≤◌, Bool, true, false, List, [], ◌∷◌, ◌++◌, length, take, map, refl, sym, ◌∙◌, ap, subst}
-use Rattle.std.specs.Prelude.{Some, None, position, Result, Ok, Err}
+use Rattle.std.proofs.Common.{◌≡◌, ℕ, Bool, true, false, List, [], ◌∷◌, ◌++◌, length, take, map, refl, ◌∙◌, ap, subst}
+use Rattle.std.specs.Prelude.{Some, position}
 use Rattle.std.specs.Str.{bytes_eq}
 use Rattle.std.proofs.lemmas.List.{length-map}
 use Rattle.ras_syntax.specs.Grammar.{Text}
 use Rattle.ras_logic.specs.declared.function.FunDecl.{FunDecl}
+use Rattle.ras_logic.proofs.Walks.{lead}
 use Rattle.ras_names.specs.declared.spec_fault.SpecKind.TheVariants.{Cycle}
 use Rattle.ras_names.specs.Placed as placed
 use Rattle.ras_names.specs.Placed.{Name}
 use Rattle.ras_names.specs.Checks.{Check, check, is_among, texts, declared_checks, used_check}
 use Rattle.ras_names.specs.FileChecks.{closes_cycle, function_checks}
-use Rattle.ras_names.proofs.Passing.{Passes, pass_both, pass_first, pass_one}
+use Rattle.ras_names.proofs.Passing.{Passes, pass_both, pass_one}
 use Rattle.ras_numbering.specs.Numbers.{number_in}
 use Rattle.ras_numbering.specs.FileValues.{function_value}
 use Rattle.ras_elab.specs.declared.fault.SpecError.{SpecError}
 use Rattle.ras_elab.specs.declared.fault.SpecError.TheVariants.{Fault}
 use Rattle.ras_elab.specs.declared.table.Table.{Table}
-use Rattle.ras_elab.specs.Answering.{Answers, Faults}
-use Rattle.ras_elab.specs.Leading.{leads_to}
+use Rattle.ras_elab.specs.Answering.{Faults}
 use Rattle.ras_elab.specs.Declaring.{AreAbove}
-use Rattle.ras_elab.proofs.Following.{faults_stay, faults_follow, first_follows}
+use Rattle.ras_elab.proofs.Following.{faults_stay, faults_follow}
 use Rattle.ras_elab.proofs.NewNames.{used_known}
 use Rattle.ras_elab.proofs.Places.{number_is}
 use Rattle.ras_elab.proofs.NamedLeads.{leads_same}
@@ -54,15 +54,15 @@ module _ (p : placed.File) (n : ℕ) (shared sorts : List Text) (above : Table F
 
   -- the functions lead by numbers just as the check says
   pub closes_is : (s t : ℕ) → position (bytes_eq f.source.text) sorts ≡ Some s → position (bytes_eq f.target.text) sorts ≡ Some t
-      → Passes (used_check sorts f.source ∷ []) → Passes (used_check sorts f.target ∷ []) → leads_to above.values.items (length sorts) t s ≡ closes
+      → Passes (used_check sorts f.source ∷ []) → Passes (used_check sorts f.target ∷ []) → lead above.values.items (length sorts) t s ≡ closes
   closes_is s t at_source at_target source target =
       let len : length sorts ≡ length p.sorts = ap length a.all_sorts ∙ length-map p.sorts (λ (m : Name). m.text) in
       let one : s ≡ number_in (texts p.sorts) f.source.text = number_is sorts f.source.text s at_source ∙ ap (λ (ss : List Text). number_in ss f.source.text) a.all_sorts in
       let two : t ≡ number_in (texts p.sorts) f.target.text = number_is sorts f.target.text t at_target ∙ ap (λ (ss : List Text). number_in ss f.target.text) a.all_sorts in
       let known_source : is_among (texts p.sorts) f.source.text ≡ true = subst (λ (ss : List Text). is_among ss f.source.text ≡ true) a.all_sorts (used_known sorts f.source source) in
       let known_target : is_among (texts p.sorts) f.target.text ≡ true = subst (λ (ss : List Text). is_among ss f.target.text ≡ true) a.all_sorts (used_known sorts f.target target) in
-      let numbers : leads_to above.values.items (length sorts) t s ≡ leads_to (map (function_value p) (take n p.functions)) (length p.sorts) (number_in (texts p.sorts) f.target.text) (number_in (texts p.sorts) f.source.text) =
-      λ i. leads_to (a.values i) (len i) (two i) (one i) in
+      let numbers : lead above.values.items (length sorts) t s ≡ lead (map (function_value p) (take n p.functions)) (length p.sorts) (number_in (texts p.sorts) f.target.text) (number_in (texts p.sorts) f.source.text) =
+      λ i. lead (a.values i) (len i) (two i) (one i) in
       numbers ∙ leads_same p (take n p.functions) (length p.sorts) f.target.text f.source.text a.sort_texts known_target known_source
 
   pub cycle_fails : Passes first → Passes (used_check sorts f.source ∷ []) → Passes (used_check sorts f.target ∷ []) → closes ≡ true

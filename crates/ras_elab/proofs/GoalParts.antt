@@ -1,6 +1,6 @@
 -- The disjuncts of an unsafe item: they name no data parameters, and are few where their checks pass.
-use Rattle.std.proofs.Common.{◌≡◌, ℕ, zero, suc, ◌+◌, ◌<◌, ◌≤◌, Bool, true, false, List, [], ◌∷◌, ◌++◌, length, get_or, map, refl, sym, ◌∙◌, ap, subst, arith, not, ◌||◌, append-nil}
-use Rattle.std.specs.Prelude.{All, Some, None, Option, flat_map, nat_le, position, slice_get}
+use Rattle.std.proofs.Common.{◌≡◌, ℕ, ◌+◌, ◌<◌, ◌≤◌, Bool, true, false, List, [], ◌∷◌, ◌++◌, length, get_or, map, refl, sym, ◌∙◌, ap, arith, not, ◌||◌, append-nil}
+use Rattle.std.specs.Prelude.{All, flat_map, nat_le, position}
 use Rattle.std.specs.Option.{option_map_or}
 use Rattle.std.specs.Str.{bytes_eq}
 use Rattle.std.proofs.lemmas.Bool.{leb-false}
@@ -8,20 +8,14 @@ use Rattle.std.proofs.lemmas.List.{length-map, length-append, map-append}
 use Rattle.std.proofs.lemmas.List.Elements.{All-map}
 use Rattle.std.proofs.lemmas.Option.{slice_get-get_or}
 use Rattle.ras_logic.specs.declared.ids.SortId.{SortId}
-use Rattle.ras_logic.specs.declared.ids.RelId.{RelId}
-use Rattle.ras_logic.specs.declared.ids.ConstId.{ConstId}
-use Rattle.ras_logic.specs.declared.ids.VarId.{VarId}
 use Rattle.ras_logic.specs.declared.term.Base.{Base}
-use Rattle.ras_logic.specs.declared.term.Base.TheVariants.{Var, Cell, Constant, Undef, Param}
-use Rattle.ras_logic.specs.declared.literal.Literal.{Literal}
-use Rattle.ras_logic.specs.declared.problem.Problem.{Problem}
+use Rattle.ras_logic.specs.declared.term.Base.TheVariants.{Var, Param}
 use Rattle.ras_logic.specs.Formulas.{HasNoParam, IsNoParam}
 use Rattle.ras_syntax.specs.Grammar.{Text}
 use Rattle.ras_names.specs.Placed as placed
 use Rattle.ras_names.specs.Placed.{disjuncts, literals, term_place, disjunct_place}
 use Rattle.ras_names.specs.declared.spec_fault.SpecKind.TheVariants.{WrongSort, TooWide}
 use Rattle.ras_names.specs.Checks.{Check, check, for_each_from, is_among, declared_texts, used_check}
-use Rattle.ras_names.specs.TermChecks as checks
 use Rattle.ras_names.specs.TermChecks.{Scope, agree, variable_sort, function_texts, plain_names, base_checks, argument_checks, term_sort, term_checks, literal_checks, conjunction_checks, disjunct_checks, guard_checks}
 use Rattle.ras_names.specs.StepChecks.{variable_texts}
 use Rattle.ras_names.specs.FileChecks.{goal_count}

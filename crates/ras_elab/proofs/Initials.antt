@@ -1,13 +1,13 @@
 -- The checks of an initial constant, in the words of what was read above it.
-use Rattle.std.proofs.Common.{◌≡◌, ℕ, Bool, true, false, not, List, [], ◌∷◌, refl, sym, ◌∙◌, ap, subst, nat_eq}
-use Rattle.std.specs.Prelude.{Option, Some, None, map}
+use Rattle.std.proofs.Common.{◌≡◌, ℕ, Bool, true, false, not, List, refl, sym, ◌∙◌, ap, nat_eq}
+use Rattle.std.specs.Prelude.{Option, Some, None}
 use Rattle.std.proofs.lemmas.Bool.Decides.{Decides-eqb}
 use Rattle.ras_syntax.specs.Grammar.{Text}
 use Rattle.ras_logic.specs.declared.ids.SortId.{SortId}
 use Rattle.ras_names.specs.declared.spec_fault.SpecKind.TheVariants.{UnknownName, WrongSort}
 use Rattle.ras_names.specs.Placed as placed
 use Rattle.ras_names.specs.Placed.{Name}
-use Rattle.ras_names.specs.Checks.{Check, check, is_among, texts, declared_texts, declared_of, used_check}
+use Rattle.ras_names.specs.Checks.{is_among, texts, declared_texts, declared_of}
 use Rattle.ras_names.specs.TermChecks.{agree}
 use Rattle.ras_names.specs.FileChecks.{initial_checks}
 use Rattle.ras_names.proofs.Passing.{Passes}

@@ -1,6 +1,5 @@
 mod SameTexts
 mod UsedNames
-mod Leading
 mod EachRows
 mod InOrder
 mod Following
@@ -25,7 +24,6 @@ mod ReadLiterals
 mod ReadAssigned
 mod ReadCases
 mod ReadEachs
-mod RowParts
 mod StepParts
 mod SharedNames
 mod NoParams
@@ -34,3 +32,4 @@ mod NamedColumns
 mod NoFault
 mod Assembled
 mod Denoted
+mod NamedParts

@@ -1,6 +1,5 @@
 -- The names of the relations, each with those of its columns.
-use Rattle.std.proofs.Common.{◌≡◌, ℕ, zero, suc, ◌+◌, ◌<◌, List, [], ◌∷◌, ◌++◌, length, get_or, take, map, refl, sym, ◌∙◌, ap, subst, arith, add-one}
-use Rattle.std.proofs.lemmas.List.{take_all}
+use Rattle.std.proofs.Common.{◌≡◌, ℕ, zero, suc, ◌+◌, ◌<◌, List, [], ◌∷◌, ◌++◌, length, get_or, take, map, refl, sym, ◌∙◌, ap, arith, add-one}
 use Rattle.ras_logic.specs.declared.ids.SortId.{SortId}
 use Rattle.ras_syntax.specs.Grammar.{Text}
 use Rattle.ras_syntax.specs.Grammar as grammar

@@ -1,20 +1,19 @@
 -- Functions lead by numbers just as by the names of their sorts.
-use Rattle.std.proofs.Common.{◌≡◌, ℕ, zero, suc, ◌<◌, ◌≤◌, Bool, true, ◌&&◌, ◌||◌, List, [], ◌∷◌, length, get_or, map, refl, sym, ◌∙◌, ap, arith, nat_eq}
-use Rattle.std.specs.Prelude.{All, position, Some, slice_get}
+use Rattle.std.proofs.Common.{◌≡◌, ℕ, zero, suc, ◌<◌, Bool, ◌&&◌, ◌||◌, List, [], ◌∷◌, length, map, refl, sym, arith, nat_eq}
+use Rattle.std.specs.Prelude.{All, position, Some}
 use Rattle.std.specs.List.{list_any}
 use Rattle.std.specs.Str.{bytes_eq}
 use Rattle.std.proofs.lemmas.Option.{slice_get_within}
 use Rattle.ras_syntax.specs.Grammar.{Text}
 use Rattle.ras_logic.specs.declared.function.FunDecl.{FunDecl}
-use Rattle.ras_logic.specs.Schemas.{HasSorts}
+use Rattle.ras_logic.proofs.Walks.{lead}
 use Rattle.ras_names.specs.Placed as placed
-use Rattle.ras_names.specs.Checks.{is_among, texts}
+use Rattle.ras_names.specs.Checks.{texts}
 use Rattle.ras_names.specs.FileChecks.{leads}
 use Rattle.ras_numbering.specs.Numbers.{number_in}
 use Rattle.ras_numbering.specs.FileValues.{function_value}
-use Rattle.ras_elab.specs.Leading.{leads_to}
 use Rattle.ras_elab.specs.Agreeing.{IsSortText, HasSortTexts}
-use Rattle.ras_elab.proofs.Places.{number_of, name_at, same_number}
+use Rattle.ras_elab.proofs.Places.{name_at, same_number}
 
 -- the number of a name is below their count
 pub number_below : (names : List Text) (name : Text) (n : ℕ) → position (bytes_eq name) names ≡ Some n → n < length names
@@ -35,8 +34,8 @@ module _ (p : placed.File) where
 
   -- from a sort to a sort
   pub leads_same : (fs : List placed.Function) (n : ℕ) (from to : Text) → All (HasSortTexts p) fs → IsSortText p from → IsSortText p to
-      → leads_to (map (function_value p) fs) n (number from) (number to) ≡ leads fs n from to
+      → lead (map (function_value p) fs) n (number from) (number to) ≡ leads fs n from to
   leads_same fs zero from to all known goal = sym (same_number (texts p.sorts) from to known goal)
   leads_same fs (suc n) from to all known goal =
       λ i. sym (same_number (texts p.sorts) from to known goal) i
-      || steps fs all (λ (k : ℕ). leads_to (map (function_value p) fs) n k (number to)) (λ (t : Text). leads fs n t to) from known (λ t h. leads_same fs n t to all h goal) i
+      || steps fs all (λ (k : ℕ). lead (map (function_value p) fs) n k (number to)) (λ (t : Text). leads fs n t to) from known (λ t h. leads_same fs n t to all h goal) i

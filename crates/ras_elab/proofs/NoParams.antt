@@ -1,9 +1,8 @@
 -- Literals without data parameters make a cube.
-use Rattle.std.proofs.Common.{◌≡◌, ℕ, ◌<◌, List, [], ◌∷◌, length, get_or, arith, refl}
-use Rattle.std.specs.Prelude.{All, Result, Ok, Err, IfErr, slice_index_or}
+use Rattle.std.proofs.Common.{List, [], ◌∷◌, arith, refl}
+use Rattle.std.specs.Prelude.{All, Result, Ok, Err, IfErr}
 use Rattle.std.specs.Result.{IsOk}
 use Rattle.ras_logic.specs.declared.literal.Literal.{Literal}
-use Rattle.ras_logic.specs.declared.problem.Problem.{Problem}
 use Rattle.ras_logic.specs.declared.cube_fault.CubeFault.{CubeFault}
 use Rattle.ras_logic.specs.declared.cube_fault.CubeFault.TheVariants.{Param}
 use Rattle.ras_logic.specs.CubeFaults.{IsCubeFault}

@@ -1,5 +1,5 @@
 -- Names are compared by their bytes.
-use Rattle.std.proofs.Common.{◌≡◌, ℕ, ◌-◌, Bool, true, false, ◌&&◌, List, [], ◌∷◌, ◌++◌, length, take, replicate, position, refl, sym, ◌∙◌, ap, subst, nat_eq}
+use Rattle.std.proofs.Common.{◌≡◌, ℕ, ◌-◌, Bool, true, false, ◌&&◌, List, [], ◌∷◌, ◌++◌, length, take, replicate, position, is_some, refl, sym, ◌∙◌, ap, subst, nat_eq}
 use Rattle.std.specs.Str.{bytes_eq}
 use Rattle.std.specs.List.{list_any}
 use Rattle.std.proofs.Math.Seq.{take-append_seam}
@@ -9,7 +9,7 @@ use Rattle.indexmap.specs.IndexSet.{insert_key}
 use Rattle.ras_lexer.specs.Texts.{padded}
 use Rattle.ras_lexer.specs.contracts.text.TextPartialEq.TheImpl.{eq-value}
 use Rattle.ras_names.specs.Checks.{is_among}
-use Rattle.ras_elab.proofs.Places.{one_test}
+use Rattle.ras_elab.proofs.Places.{one_test, number_of, no_number}
 
 abbrev pub text_eq : List ℕ → List ℕ → Bool
 text_eq = eq-value.it
@@ -53,3 +53,11 @@ pub inserted : (keys now : List (List ℕ)) (name : List ℕ) → keys ≡ now �
 inserted keys now name view none =
     let absent : list_any (text_eq name) keys ≡ false = same_among keys now name view ∙ none in
     rw absent (ap (λ (ks : List (List ℕ)). ks ++ name ∷ []) view)
+
+-- what has a place is known
+pub place_known : (name : List ℕ) (names : List (List ℕ)) → is_some (position (bytes_eq name) names) ≡ is_among names name
+place_known name names = go (is_among names name) refl
+  where
+    go : (b : Bool) → is_among names name ≡ b → is_some (position (bytes_eq name) names) ≡ b
+    go true h = ap is_some (number_of names name h)
+    go false h = ap is_some (no_number names name h)

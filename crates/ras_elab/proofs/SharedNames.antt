@@ -1,6 +1,4 @@
 -- What is declared agrees with a file whatever the shared names are.
-use Rattle.std.proofs.Common.{List}
-use Rattle.ras_syntax.specs.Grammar.{Text}
 use Rattle.ras_names.specs.Placed as placed
 use Rattle.ras_elab.specs.declared.declared.Declared.{Declared}
 use Rattle.ras_elab.specs.declared.name_set.NameSet.{NameSet}

@@ -1,21 +1,13 @@
 -- The inside of a step, in the words of what was read of it.
-use Rattle.std.proofs.Common.{◌≡◌, List, [], ◌++◌, map, sym, ◌∙◌, ap, subst, append-nil}
+use Rattle.std.proofs.Common.{◌≡◌, List, ◌++◌, map, ◌∙◌, ap, subst, append-nil}
 use Rattle.std.specs.Prelude.{All, None, Option}
-use Rattle.ras_logic.specs.declared.ids.SortId.{SortId}
-use Rattle.ras_logic.specs.declared.ids.RelId.{RelId}
-use Rattle.ras_system.specs.declared.transition.Transition.{Transition}
 use Rattle.ras_syntax.specs.Grammar.{Text}
 use Rattle.ras_syntax.specs.Grammar as grammar
-use Rattle.ras_syntax.specs.declared.tree.Row.{Row}
-use Rattle.ras_syntax.specs.declared.tree.Param.{Param}
-use Rattle.ras_syntax.specs.declared.tree.Step.{Step}
-use Rattle.ras_names.specs.declared.names.StepNames.{StepNames}
 use Rattle.ras_names.specs.Placed as placed
 use Rattle.ras_names.specs.Placed.{Declared as Item}
 use Rattle.ras_names.specs.Unplaced.{row_of, param_of, each_of, step_of}
 use Rattle.ras_names.specs.FileNames.{names_of_step}
 use Rattle.ras_names.specs.Checks.{Check, for_each, declared_texts}
-use Rattle.ras_names.specs.TermChecks as checks
 use Rattle.ras_names.specs.StepChecks.{row_checks, param_checks, inside_checks}
 use Rattle.ras_names.proofs.Among.{map-map}
 use Rattle.ras_names.proofs.Passing.{Passes, pass_both}
@@ -29,7 +21,6 @@ use Rattle.ras_elab.specs.Agreeing.{Agrees, IsOfSort}
 use Rattle.ras_elab.specs.Bodies.{IsOfRelation, body_checks}
 use Rattle.ras_elab.specs.Scopes.{each_names}
 use Rattle.ras_elab.specs.Seeing.{Sees, each_relations}
-use Rattle.ras_elab.specs.Placing.{placed_row, placed_param, placed_step}
 use Rattle.ras_elab.proofs.Following.{faults_stay, faults_follow}
 
 -- what is read of rows and data parameters is what a step sees

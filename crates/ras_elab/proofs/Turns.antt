@@ -1,5 +1,5 @@
 -- The turns of a loop over all items of a list, whose checks begin at the number 0.
-use Rattle.std.proofs.Common.{◌≡◌, ℕ, ◌+◌, ◌<◌, ◌≤◌, List, length, get_or, map, sym, subst, arith}
+use Rattle.std.proofs.Common.{◌≡◌, ℕ, ◌+◌, ◌<◌, ◌≤◌, List, length, get_or, map, subst, arith}
 use Rattle.ras_names.specs.Checks.{Check, for_each}
 use Rattle.ras_names.proofs.Passing.{Passes}
 use Rattle.ras_elab.specs.declared.fault.SpecError.{SpecError}

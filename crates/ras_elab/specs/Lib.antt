@@ -2,7 +2,6 @@ pub mod Placing
 pub mod Finding
 pub mod Columns
 pub mod Answering
-pub mod Leading
 pub mod Scopes
 pub mod Meanings
 pub mod Agreeing
@@ -16,3 +15,4 @@ pub mod Calling
 pub mod Literals
 pub mod Assigning
 pub mod Cases
+pub mod Naming

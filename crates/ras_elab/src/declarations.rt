@@ -13,14 +13,14 @@ ghost use Rattle.ras_elab.specs.Answering.{Answers};
 ghost use Rattle.ras_elab.specs.Agreeing.{Agrees, IsSortText, IsOfSort, HasSortTexts, names_of_columns, sorts_of_columns};
 ghost use Rattle.ras_elab.specs.Declaring.{AreAbove, AreConstants, AreSchemaItems, IsOfSortText, AreOfSort, schema_checks, declaration_checks};
 
-use crate::cycles::leads;
 use crate::declared::{Declared, check_name, find_sort};
 use crate::fault::{SpecError, fault};
 use crate::name_set::NameSet;
+use crate::named::{Naming, add_all_named, add_named};
 use crate::table::Table;
-use ras_logic::{ConstId, FunDecl, FunId, List, SortId};
+use ras_logic::{ConstId, FunDecl, FunId, List, SortId, leads};
 use ras_names::SpecKind;
-use ras_syntax::{Column, File, Function, Initial, Name, Relation, Totality, Variable};
+use ras_syntax::{File, Function, Initial, Name, Relation, Totality, Variable};
 use std::alloc::Global;
 
 /// The sorts of a file, at most 64.
@@ -60,7 +60,13 @@ fn read_function(
     check_name(shared, 256, above.names().len(), name)?;
     let source = find_sort(sorts, &function.source)?;
     let target = find_sort(sorts, &function.target)?;
-    if leads(above.values(), sorts.count(), target, source) {
+    let sort_count = sorts.len();
+    if leads(
+        above.values(),
+        sort_count,
+        target.n as usize,
+        source.n as usize,
+    ) {
         let function = FunId {
             n: above.names().count(),
         };
@@ -258,30 +264,7 @@ fn read_variables(
     })
 }
 
-/// One column more of a relation, which has at most 32.
-fn add_column(
-    sorts: &NameSet,
-    columns: &mut Table<SortId>,
-    column: &Column,
-) -> Result<(), SpecError>
-    ensures checks { Answers (declared_checks 32 (length columns.old.names) columns.old.names (placed_name column.now.name) ++ used_check sorts.now (placed_name column.now.sort) ∷ []) result }
-    ensures names { OnOk result (columns.new.names ≡ columns.old.names ++ column.now.name.text ∷ []) }
-    ensures values { OnOk result (columns.new.values.items ≡ columns.old.values.items ++ record { n = number_in sorts.now column.now.sort.text } ∷ []) }
-    ensures known { OnOk result (is_among sorts.now column.now.sort.text ≡ true) }
-{
-    let sort = read_sorted(
-        columns.names(),
-        sorts,
-        32,
-        columns.names().len(),
-        &column.name,
-        &column.sort,
-    )?;
-    columns.add(column.name.text, sort)?;
-    Ok(())
-}
-
-/// The columns of a relation.
+/// The columns of a relation, at most 32.
 fn read_columns(
     alloc: Global,
     sorts: &NameSet,
@@ -293,11 +276,16 @@ fn read_columns(
     ensures values { (p : placed.File) → sorts.now ≡ texts p.sorts → IfOk result (λ t. t.values.items ≡ relation_value p (placed_relation relation.now)) }
     ensures sorts { (p : placed.File) → sorts.now ≡ texts p.sorts → OnOk result (All (IsOfSort p) (columns (placed_relation relation.now))) }
 {
+    let none = NameSet::new(alloc);
+    let naming = Naming {
+        above: &none,
+        more: &none,
+        used: sorts,
+        limit: 32,
+    };
     let mut columns = Table::new(alloc);
-    add_column(sorts, &mut columns, &relation.first)?;
-    for other in &relation.others {
-        add_column(sorts, &mut columns, &other.column)?;
-    }
+    add_named(&naming, &mut columns, &relation.first)?;
+    add_all_named(&naming, &mut columns, relation.others.as_slice())?;
     Ok(columns)
 }
 

@@ -45,6 +45,17 @@ pub(crate) fn check_name(
     Ok(())
 }
 
+/// The number that a name is used for.
+pub(crate) fn find_number(names: &NameSet, name: &Name) -> Result<u16, SpecError>
+    ensures checks { Answers (used_check names.now (placed_name name.now) ∷ []) result }
+    ensures number { IfOk result (λ n. position (bytes_eq name.now.text) names.now ≡ Some n) }
+{
+    match names.number(&name.text) {
+        Some(n) => Ok(n),
+        None => fault(name.at, SpecKind::UnknownName),
+    }
+}
+
 /// The sort that a name is used for.
 pub(crate) fn find_sort(sorts: &NameSet, name: &Name) -> Result<SortId, SpecError>
     ensures checks { Answers (used_check sorts.now (placed_name name.now) ∷ []) result }

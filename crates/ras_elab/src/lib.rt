@@ -3,7 +3,6 @@
 #![tactic(auto)]
 
 mod cases;
-mod cycles;
 mod declarations;
 mod declared;
 mod elaborating;
@@ -12,6 +11,7 @@ mod formulas;
 mod goals;
 pub mod law;
 mod name_set;
+mod named;
 mod scope;
 mod steps;
 mod table;

@@ -1,4 +1,4 @@
-ghost use Rattle.std.specs.Prelude.{◌≡◌, ℕ, [], ◌∷◌, ◌++◌, false, length, position, is_some, IfOk, OnOk, OnErr};
+ghost use Rattle.std.specs.Prelude.{◌≡◌, ℕ, [], ◌∷◌, ◌++◌, false, ◌≤◌, length, position, is_some, IfOk, IfSome, OnOk, OnErr};
 ghost use Rattle.std.specs.Str.{bytes_eq};
 ghost use Rattle.ras_names.specs.Checks.{is_among};
 
@@ -10,6 +10,9 @@ use std::marker::Model;
 
 /// How many names a set has at most, so that a `u16` numbers them.
 const ROOM: usize = 65_535;
+
+/// Among as many names one is found sooner by comparing it with each than by its hash.
+const FEW: usize = 16;
 
 /// Names in the order of their numbers, no two of them equal.
 #[derive(Drop)]
@@ -25,6 +28,13 @@ impl Model for NameSet {
     ghost view = { λ s. s.names.keys };
 
     ghost invariant = { λ s. length s.names.keys ≤ 65535 };
+}
+
+/// The place of a name among names.
+fn place_of(names: &[Text], name: &Text) -> Option<usize>
+    ensures { result ≡ position (bytes_eq name.now) names.now }
+{
+    names.iter().position(|other| name.bytes() == other.bytes())
 }
 
 impl NameSet {
@@ -58,12 +68,23 @@ impl NameSet {
         self.names.contains(name)
     }
 
+    /// The place of a name.
+    fn place(&self, name: &Text) -> Option<usize>
+        ensures place { result ≡ position (bytes_eq name.now) self.now }
+        ensures within { IfSome result (λ n. n ≤ 65535) }
+    {
+        if self.names.len() <= FEW {
+            return place_of(self.names.as_slice(), name);
+        }
+        self.names.get_index_of(name)
+    }
+
     /// The number of a name.
     pub(crate) fn number(&self, name: &Text) -> Option<u16>
         ensures number { result ≡ position (bytes_eq name.now) self.now }
         ensures known { is_some result ≡ is_among self.now name.now }
     {
-        match self.names.get_index_of(name) {
+        match self.place(name) {
             Some(n) => Some(n as u16),
             None => None,
         }

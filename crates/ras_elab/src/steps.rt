@@ -16,47 +16,20 @@ ghost use Rattle.ras_elab.specs.Seeing.{Sees, step_texts};
 ghost use Rattle.ras_elab.specs.Bodies.{IsOfRelation, body_checks};
 
 use crate::cases::{Cases, read_eachs};
-use crate::declared::{Declared, check_name, find_sort};
-use crate::fault::{SpecError, fault};
+use crate::declared::{Declared, check_name};
+use crate::fault::SpecError;
 use crate::formulas::read_guard;
 use crate::name_set::NameSet;
+use crate::named::{Naming, read_named};
 use crate::scope::Scope;
 use crate::table::Table;
 use crate::updates::read_updates;
 use ras_lexer::Text;
 use ras_logic::{List, Literal, RelId, Rows, SortId};
-use ras_names::{SpecKind, StepNames};
+use ras_names::StepNames;
 use ras_syntax as tree;
 use ras_system::{Transition, Update};
 use std::alloc::{AllocError, Global};
-
-/// A name is the next of its kind, of which there are `count` above: it is within the limit, and in neither set.
-fn check_inner(
-    shared: &NameSet,
-    own: &NameSet,
-    limit: usize,
-    count: usize,
-    name: &tree::Name,
-) -> Result<(), SpecError>
-    ensures { Answers (declared_checks limit count (shared.now ++ own.now) (placed_name name.now)) result }
-{
-    check_name(shared, limit, count, name)?;
-    if own.has(&name.text) {
-        return fault(name.at, SpecKind::DuplicateName);
-    }
-    Ok(())
-}
-
-/// The relation of a row with a new name.
-fn read_row(declared: &Declared, rows: &NameSet, row: &tree::Row) -> Result<RelId, SpecError>
-    ensures checks { Answers (declared_checks 8 (length rows.now) (declared.now.shared ++ rows.now) (placed_name row.now.name) ++ used_check declared.now.relations (placed_name row.now.relation) ∷ []) result }
-    ensures value { IfOk result (λ r. r ≡ record { n = number_in declared.now.relations row.now.relation.text }) }
-    ensures known { OnOk result (is_among declared.now.relations row.now.relation.text ≡ true) }
-    ensures new { OnOk result (is_among rows.now row.now.name.text ≡ false) }
-{
-    check_inner(&declared.shared, rows, 8, rows.len(), &row.name)?;
-    declared.relation(&row.relation)
-}
 
 /// The rows of a step or of an unsafe item, at most 8.
 pub(crate) fn read_rows(
@@ -70,45 +43,14 @@ pub(crate) fn read_rows(
     ensures values { (p : placed.File) → declared.now.relations ≡ relation_texts p → IfOk result (λ t. t.values.items ≡ map (declared_relation p) (map placed_row rows.now)) }
     ensures known { (p : placed.File) → declared.now.relations ≡ relation_texts p → OnOk result (All (IsOfRelation p) (map placed_row rows.now)) }
 {
-    let mut table = Table::new(alloc);
-    for row in rows {
-        let relation = read_row(declared, table.names(), row)?;
-        table.add(row.name.text, relation)?;
-    }
-    Ok(table)
-}
-
-/// The name of a data parameter is the next of at most 16: it is not among the shared names, the rows and the parameters
-/// above.
-fn check_param(
-    shared: &NameSet,
-    rows: &NameSet,
-    params: &NameSet,
-    name: &tree::Name,
-) -> Result<(), SpecError>
-    ensures { Answers (declared_checks 16 (length params.now) ((shared.now ++ rows.now) ++ params.now) (placed_name name.now)) result }
-{
-    check_inner(shared, rows, 16, params.len(), name)?;
-    if params.has(&name.text) {
-        return fault(name.at, SpecKind::DuplicateName);
-    }
-    Ok(())
-}
-
-/// The sort of a data parameter with a new name.
-fn read_param(
-    declared: &Declared,
-    rows: &NameSet,
-    params: &NameSet,
-    param: &tree::Param,
-) -> Result<SortId, SpecError>
-    ensures checks { Answers (declared_checks 16 (length params.now) ((declared.now.shared ++ rows.now) ++ params.now) (placed_name param.now.name) ++ used_check declared.now.sorts (placed_name param.now.sort) ∷ []) result }
-    ensures value { IfOk result (λ s. s ≡ record { n = number_in declared.now.sorts param.now.sort.text }) }
-    ensures known { OnOk result (is_among declared.now.sorts param.now.sort.text ≡ true) }
-    ensures new { OnOk result (is_among params.now param.now.name.text ≡ false) }
-{
-    check_param(&declared.shared, rows, params, &param.name)?;
-    find_sort(&declared.sorts, &param.sort)
+    let none = NameSet::new(alloc);
+    let naming = Naming {
+        above: &none,
+        more: &declared.shared,
+        used: &declared.relations,
+        limit: 8,
+    };
+    read_named(alloc, &naming, rows)
 }
 
 /// The data parameters of a step, at most 16.
@@ -124,12 +66,13 @@ fn read_params(
     ensures values { (p : placed.File) → declared.now.sorts ≡ texts p.sorts → IfOk result (λ t. t.values.items ≡ map (declared_sort p) (map placed_param params.now)) }
     ensures known { (p : placed.File) → declared.now.sorts ≡ texts p.sorts → OnOk result (All (IsOfSort p) (map placed_param params.now)) }
 {
-    let mut table = Table::new(alloc);
-    for param in params {
-        let sort = read_param(declared, rows, table.names(), param)?;
-        table.add(param.name.text, sort)?;
-    }
-    Ok(table)
+    let naming = Naming {
+        above: &declared.shared,
+        more: rows,
+        used: &declared.sorts,
+        limit: 16,
+    };
+    read_named(alloc, &naming, params)
 }
 
 /// The rows of a list that has few.

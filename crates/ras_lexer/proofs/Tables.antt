@@ -7,75 +7,81 @@ use Rattle.std.proofs.lemmas.Bool.{false≢true}
 use Rattle.ras_lexer.specs.declared.fixed.Fixed.{Fixed}
 use Rattle.ras_lexer.specs.declared.fixed.Fixed.TheVariants as fixed
 use Rattle.ras_lexer.specs.Words.{fixed_bytes}
+use Rattle.ras_lexer.specs.Lengths.{of_length}
 
+-- the place of each among those that are as long
 abbrev index : Fixed → ℕ
-index fixed.System = 0
-index fixed.Sort = 1
-index fixed.Total = 2
-index fixed.Nullable = 3
-index fixed.Const = 4
-index fixed.Var = 5
-index fixed.Relation = 6
-index fixed.Step = 7
-index fixed.Row = 8
-index fixed.Param = 9
-index fixed.When = 10
-index fixed.Or = 11
-index fixed.And = 12
-index fixed.True = 13
-index fixed.Undef = 14
-index fixed.Each = 15
-index fixed.If = 16
-index fixed.Unsafe = 17
-index fixed.OpenBrace = 18
-index fixed.CloseBrace = 19
-index fixed.OpenParen = 20
-index fixed.CloseParen = 21
-index fixed.Semicolon = 22
-index fixed.Colon = 23
-index fixed.Comma = 24
-index fixed.Dot = 25
-index fixed.Equal = 26
-index fixed.NotEqual = 27
-index fixed.Assign = 28
-index fixed.Arrow = 29
+index fixed.System = 1
+index fixed.Sort = 4
+index fixed.Total = 3
+index fixed.Nullable = 1
+index fixed.Const = 2
+index fixed.Var = 2
+index fixed.Relation = 0
+index fixed.Step = 0
+index fixed.Row = 1
+index fixed.Param = 1
+index fixed.When = 1
+index fixed.Or = 2
+index fixed.And = 0
+index fixed.True = 3
+index fixed.Undef = 0
+index fixed.Each = 2
+index fixed.If = 3
+index fixed.Unsafe = 0
+index fixed.OpenBrace = 5
+index fixed.CloseBrace = 6
+index fixed.OpenParen = 7
+index fixed.CloseParen = 8
+index fixed.Semicolon = 2
+index fixed.Colon = 3
+index fixed.Comma = 4
+index fixed.Dot = 0
+index fixed.Equal = 1
+index fixed.NotEqual = 0
+index fixed.Assign = 1
+index fixed.Arrow = 4
 
 abbrev pub all : List Fixed
 all = fixed.System ∷ fixed.Sort ∷ fixed.Total ∷ fixed.Nullable ∷ fixed.Const ∷ fixed.Var ∷ fixed.Relation ∷ fixed.Step ∷ fixed.Row ∷ fixed.Param ∷ fixed.When ∷ fixed.Or ∷ fixed.And ∷ fixed.True ∷ fixed.Undef ∷ fixed.Each ∷ fixed.If ∷ fixed.Unsafe ∷ fixed.OpenBrace ∷ fixed.CloseBrace ∷ fixed.OpenParen ∷ fixed.CloseParen ∷ fixed.Semicolon ∷ fixed.Colon ∷ fixed.Comma ∷ fixed.Dot ∷ fixed.Equal ∷ fixed.NotEqual ∷ fixed.Assign ∷ fixed.Arrow ∷ []
 
-all-index : (f : Fixed) → get_or all (index f) f ≡ f
-all-index fixed.System = refl
-all-index fixed.Sort = refl
-all-index fixed.Total = refl
-all-index fixed.Nullable = refl
-all-index fixed.Const = refl
-all-index fixed.Var = refl
-all-index fixed.Relation = refl
-all-index fixed.Step = refl
-all-index fixed.Row = refl
-all-index fixed.Param = refl
-all-index fixed.When = refl
-all-index fixed.Or = refl
-all-index fixed.And = refl
-all-index fixed.True = refl
-all-index fixed.Undef = refl
-all-index fixed.Each = refl
-all-index fixed.If = refl
-all-index fixed.Unsafe = refl
-all-index fixed.OpenBrace = refl
-all-index fixed.CloseBrace = refl
-all-index fixed.OpenParen = refl
-all-index fixed.CloseParen = refl
-all-index fixed.Semicolon = refl
-all-index fixed.Colon = refl
-all-index fixed.Comma = refl
-all-index fixed.Dot = refl
-all-index fixed.Equal = refl
-all-index fixed.NotEqual = refl
-all-index fixed.Assign = refl
-all-index fixed.Arrow = refl
+-- those that are as long as this one
+abbrev as_long : Fixed → List Fixed
+as_long f = of_length (length (fixed_bytes f))
 
-index_lt : (f : Fixed) → index f < 30
+found_at : (f : Fixed) → get_or (as_long f) (index f) f ≡ f
+found_at fixed.System = refl
+found_at fixed.Sort = refl
+found_at fixed.Total = refl
+found_at fixed.Nullable = refl
+found_at fixed.Const = refl
+found_at fixed.Var = refl
+found_at fixed.Relation = refl
+found_at fixed.Step = refl
+found_at fixed.Row = refl
+found_at fixed.Param = refl
+found_at fixed.When = refl
+found_at fixed.Or = refl
+found_at fixed.And = refl
+found_at fixed.True = refl
+found_at fixed.Undef = refl
+found_at fixed.Each = refl
+found_at fixed.If = refl
+found_at fixed.Unsafe = refl
+found_at fixed.OpenBrace = refl
+found_at fixed.CloseBrace = refl
+found_at fixed.OpenParen = refl
+found_at fixed.CloseParen = refl
+found_at fixed.Semicolon = refl
+found_at fixed.Colon = refl
+found_at fixed.Comma = refl
+found_at fixed.Dot = refl
+found_at fixed.Equal = refl
+found_at fixed.NotEqual = refl
+found_at fixed.Assign = refl
+found_at fixed.Arrow = refl
+
+index_lt : (f : Fixed) → index f < length (as_long f)
 index_lt fixed.System = lit< tt
 index_lt fixed.Sort = lit< tt
 index_lt fixed.Total = lit< tt
@@ -129,12 +135,16 @@ found : (fs : List Fixed) (bytes : List ℕ) → MatchOption (find (λ f. bytes_
 found [] bytes = λ k d lt. absurd (omega arith)
 found (f ∷ fs) bytes = one_more f fs bytes (bytes_eq (fixed_bytes f) bytes) (bytes_eq-Decides (fixed_bytes f) bytes) (find (λ g. bytes_eq (fixed_bytes g) bytes) fs) (found fs bytes)
 
-none_at_all : (bytes : List ℕ) (r : Option Fixed) → MatchOption r (NoneWritten all bytes) (λ f. fixed_bytes f ≡ bytes) → MatchOption r ((f : Fixed) → fixed_bytes f ≢ bytes) (λ f. fixed_bytes f ≡ bytes)
-none_at_all bytes None none = λ f e. none (index f) f (index_lt f) (ap fixed_bytes (all-index f) ∙ e)
+none_at_all : (bytes : List ℕ) (r : Option Fixed) → MatchOption r (NoneWritten (of_length (length bytes)) bytes) (λ f. fixed_bytes f ≡ bytes)
+    → MatchOption r ((f : Fixed) → fixed_bytes f ≢ bytes) (λ f. fixed_bytes f ≡ bytes)
+none_at_all bytes None none = λ f e.
+    let same : as_long f ≡ of_length (length bytes) = ap (λ (bs : List ℕ). of_length (length bs)) e in
+    subst (λ (fs : List Fixed). NoneWritten fs bytes) (sym same) none (index f) f (index_lt f) (ap fixed_bytes (found_at f) ∙ e)
 none_at_all bytes (Some f) h = h
 
-pub of_is : (bytes : List ℕ) (r : Option Fixed) → r ≡ find (λ f. bytes_eq (fixed_bytes f) bytes) all → MatchOption r ((f : Fixed) → fixed_bytes f ≢ bytes) (λ f. fixed_bytes f ≡ bytes)
-of_is bytes r e = none_at_all bytes r (subst (λ (o : Option Fixed). MatchOption o (NoneWritten all bytes) (λ f. fixed_bytes f ≡ bytes)) (sym e) (found all bytes))
+pub of_is : (bytes : List ℕ) (r : Option Fixed) → r ≡ find (λ f. bytes_eq (fixed_bytes f) bytes) (of_length (length bytes)) → MatchOption r ((f : Fixed) → fixed_bytes f ≢ bytes) (λ f. fixed_bytes f ≡ bytes)
+of_is bytes r e =
+    none_at_all bytes r (subst (λ (o : Option Fixed). MatchOption o (NoneWritten (of_length (length bytes)) bytes) (λ f. fixed_bytes f ≡ bytes)) (sym e) (found (of_length (length bytes)) bytes))
 
 -- the reserved word or sign that is written by the bytes, or any
 abbrev pub first_of : List ℕ → Fixed

@@ -2,6 +2,7 @@ ghost use Rattle.std.specs.Prelude.{◌≡◌, ◌≢◌, MatchOption};
 ghost use Rattle.std.specs.List.{find};
 ghost use Rattle.std.specs.Str.{bytes_eq};
 ghost use Rattle.ras_lexer.specs.Words.{fixed_bytes};
+ghost use Rattle.ras_lexer.specs.Lengths.{of_length};
 ghost use Rattle.ras_lexer.specs.declared.fixed.Fixed as declared;
 
 /// A reserved word or a sign.
@@ -78,7 +79,45 @@ impl Fixed {
     pub fn of(bytes: &[u8]) -> Option<Fixed>
         ensures { MatchOption result ((f : declared.Fixed) → fixed_bytes f ≢ bytes.now) (λ f. fixed_bytes f ≡ bytes.now) }
     {
-        first_written(&Self::ALL, bytes)
+        first_written(Self::of_length(bytes.len()), bytes)
+    }
+
+    /// Those that are written by this many bytes, so that a word is compared with few of them.
+    fn of_length(length: usize) -> &'static [Fixed]
+        ensures { result.now ≡ of_length length }
+    {
+        match length {
+            1 => &[
+                Fixed::Dot,
+                Fixed::Equal,
+                Fixed::Semicolon,
+                Fixed::Colon,
+                Fixed::Comma,
+                Fixed::OpenBrace,
+                Fixed::CloseBrace,
+                Fixed::OpenParen,
+                Fixed::CloseParen,
+            ],
+            2 => &[
+                Fixed::NotEqual,
+                Fixed::Assign,
+                Fixed::Or,
+                Fixed::If,
+                Fixed::Arrow,
+            ],
+            3 => &[Fixed::And, Fixed::Row, Fixed::Var],
+            4 => &[
+                Fixed::Step,
+                Fixed::When,
+                Fixed::Each,
+                Fixed::True,
+                Fixed::Sort,
+            ],
+            5 => &[Fixed::Undef, Fixed::Param, Fixed::Const, Fixed::Total],
+            6 => &[Fixed::Unsafe, Fixed::System],
+            8 => &[Fixed::Relation, Fixed::Nullable],
+            _ => &[],
+        }
     }
 
     /// The bytes by which it is written.

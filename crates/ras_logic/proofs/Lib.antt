@@ -1,12 +1,14 @@
 pub mod AllSteps
-pub mod Chains
+pub mod ByPlace
 pub mod Clashes
 pub mod Closing
 pub mod Columns
 pub mod Elements
+pub mod Leading
 pub mod MoreFacts
 pub mod Preorder
 pub mod Rounds
 pub mod SameSorts
 pub mod Soundness
 pub mod TermSorts
+pub mod Walks

@@ -10,7 +10,10 @@ use Rattle.ras_logic.specs.declared.ids.SortId.{SortId}
 use Rattle.ras_logic.specs.declared.function.FunDecl.{FunDecl}
 use Rattle.ras_logic.specs.Schemas.{IsLinked, IsChain, IsAcyclic, HasSorts}
 use Rattle.ras_logic.specs.SchemaFaults.{end_of, HasCycle}
-use Rattle.ras_logic.specs.Chains.{HasLongChain}
+
+-- there is a chain that has as many functions as there are sorts, or more
+abbrev pub HasLongChain : ℕ → List FunDecl → Type 0
+HasLongChain sorts functions = (f : FunDecl) × (fs : List FunDecl) × IsChain functions (f ∷ fs) × (sorts ≤ length (f ∷ fs))
 
 -- the targets along a chain
 ends : FunDecl → List FunDecl → List ℕ

@@ -1,7 +1,7 @@
 pub mod Places
 pub mod Schemas
 pub mod SchemaFaults
-pub mod Chains
+pub mod Leading
 pub mod Shapes
 pub mod ShapeFaults
 pub mod Databases

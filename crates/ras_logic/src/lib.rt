@@ -30,6 +30,7 @@ mod values;
 
 pub use cube::Cube;
 pub use cube_fault::CubeFault;
+pub use cycles::{Arrow, leads};
 pub use function::FunDecl;
 pub use ids::{ConstId, FunId, RelId, SortId, VarId};
 pub use kind::Kind;

@@ -8,12 +8,11 @@ use Rattle.std.proofs.lemmas.Cmp.{nat_list_eq_equiv}
 use Rattle.std.proofs.lemmas.Map.Views.{list_any-from_Contains, Contains-from_any}
 use Rattle.std.proofs.lemmas.Slice.Eq.{bytes_eq-Decides}
 use Rattle.std.proofs.lemmas.Bool.{leb-true}
+use Rattle.ras_logic.proofs.ByPlace.{at_contains, contains-at, not_true, take_at}
 use Rattle.ras_syntax.specs.Grammar.{Text}
 use Rattle.ras_names.specs.Lists.{HasNumber}
 use Rattle.ras_names.specs.Checks.{is_among}
-use Rattle.ras_names.proofs.Numbered.{in_left, in_right, in_either, at_contains, AreNumbered}
-use Rattle.ras_names.proofs.ClearNames.{contains-at}
-use Rattle.ras_names.proofs.Passing.{not_true}
+use Rattle.ras_names.proofs.Numbered.{in_left, in_right, in_either, AreNumbered}
 
 pub same_text : (m n : Text) → m ≡ n → bytes_eq m n ≡ true
 same_text m n e = (bytes_eq-Decides m n).1 e
@@ -26,12 +25,6 @@ among_at names name k h = list_any-from_Contains nat_list_eq_equiv name names (a
 
 pub not_among : (names : List Text) (name : Text) → ((k : ℕ) → HasNumber names name k → ⊥) → is_among names name ≡ false
 not_among names name none = not_true (is_among names name) (λ h. let c = contains-at names name (Contains-from_any text_same name names h) in none c.0 c.1)
-
-pub take_at : {X : Type 0} (n : ℕ) (xs : List X) (k : ℕ) (x : X) → slice_get (take n xs) k ≡ Some x → (slice_get xs k ≡ Some x) × (k < n)
-take_at zero xs k x e = absurd (cc)
-take_at (suc n) [] k x e = absurd (cc)
-take_at (suc n) (y ∷ xs) zero x e = (e, omega arith)
-take_at (suc n) (y ∷ xs) (suc k) x e = let r = take_at n xs k x e in (r.0, omega (arith, r.1))
 
 -- the k-th of the second names is none of the first, and none of those before it
 pub fresh : (xs ys : List Text) (k : ℕ) (name : Text) → AreNumbered (xs ++ ys) → HasNumber ys name k → is_among (xs ++ take k ys) name ≡ false
@@ -47,11 +40,6 @@ fresh xs ys k name numbered at =
 pub map-map : {A B C : Type 0} (f : B → C) (g : A → B) (xs : List A) → map f (map g xs) ≡ map (λ x. f (g x)) xs
 map-map f g [] = refl
 map-map {A} {B} {C} f g (x ∷ xs) = ap (λ (ys : List C). f (g x) ∷ ys) (map-map f g xs)
-
-pub map_from : {A B : Type 0} (f : A → B) (xs : List A) (k : ℕ) (y : B) → slice_get (map f xs) k ≡ Some y → (x : A) × (slice_get xs k ≡ Some x) × (f x ≡ y)
-map_from f [] k y e = absurd (cc)
-map_from f (x ∷ xs) zero y e = (x, refl, (let q : f x ≡ y = cc in q))
-map_from f (x ∷ xs) (suc k) y e = map_from f xs k y e
 
 tail-numbered : (name : Text) (names : List Text) → AreNumbered (name ∷ names) → AreNumbered names
 tail-numbered name names h n i j a b = let e : suc i ≡ suc j = h n (suc i) (suc j) a b in omega (arith, e)

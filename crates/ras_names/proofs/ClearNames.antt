@@ -3,6 +3,7 @@ use Rattle.std.proofs.Common.{◌≡◌, ℕ, ◌+◌, List, [], ◌∷◌, ◌+
 use Rattle.std.specs.Prelude.{slice_get, Some, All, Contains}
 use Rattle.std.proofs.lemmas.Option.{slice_get_within, get_or_from_slice_get, slice_get-get_or, slice_get-map}
 use Rattle.ras_logic.specs.declared.ids.RelId.{RelId}
+use Rattle.ras_logic.proofs.ByPlace.{at_contains, contains-at, map-at}
 use Rattle.ras_syntax.specs.Grammar as grammar
 use Rattle.ras_syntax.specs.Grammar.{Text}
 use Rattle.ras_names.specs.declared.names.RelNames.{RelNames}
@@ -12,17 +13,11 @@ use Rattle.ras_names.specs.declared.names.Names.{Names}
 use Rattle.ras_names.specs.Lists.{HasNumber, AreDifferent}
 use Rattle.ras_names.specs.FileNames.{names_of, names_of_rows, names_of_params, names_of_step, names_of_goal}
 use Rattle.ras_names.specs.NewNames.{relation_names, declared_names, shared_names, above_step, AreNew, AreNewNames}
-use Rattle.ras_names.proofs.Numbered.{in_left, in_right, at_contains, AreNumbered, AreApart, different-numbered, left-numbered, right-numbered, numbered-apart, numbered-more}
+use Rattle.ras_names.proofs.Numbered.{in_left, in_right, AreNumbered, AreApart, different-numbered, left-numbered, right-numbered, numbered-apart, numbered-more}
 use Rattle.ras_names.proofs.OneTerm.{IsClear}
 
 pub all-at : {X : Type 0} (P : X → Type 0) (xs : List X) (k : ℕ) (x : X) → All P xs → slice_get xs k ≡ Some x → P x
 all-at P xs k x h e = subst P (get_or_from_slice_get xs k x x e) (h k x (slice_get_within xs k x e))
-
-pub contains-at : {X : Type 0} (xs : List X) (x : X) → Contains xs x → (k : ℕ) × (slice_get xs k ≡ Some x)
-contains-at xs x c = (c.0, slice_get-get_or xs c.0 x c.1 ∙ ap Some c.2)
-
-pub map-at : {X Y : Type 0} (f : X → Y) (xs : List X) (k : ℕ) (x : X) → slice_get xs k ≡ Some x → slice_get (map f xs) k ≡ Some (f x)
-map-at f xs k x e = rw (slice_get-map f xs k, e) refl
 
 module _ (names : Names) (h : AreNewNames names) where
   abbrev before_constants : List Text

@@ -9,6 +9,7 @@ use Rattle.ras_logic.specs.declared.problem.Problem.{Problem}
 use Rattle.ras_logic.specs.Schemas.{IsSort, HasSorts, IsSchema}
 use Rattle.ras_logic.specs.Shapes.{ShapeParts, IsShape}
 use Rattle.ras_logic.specs.Formulas.{Fits, IsCube}
+use Rattle.ras_logic.proofs.ByPlace.{map_from, one_value}
 use Rattle.ras_system.specs.declared.transition.Transition.{Transition}
 use Rattle.ras_system.specs.Systems.{SystemParts, IsTransition}
 use Rattle.ras_system.specs.SystemFaults.{HasTransitionLimits, HasGoalLimits}
@@ -29,10 +30,9 @@ use Rattle.ras_names.specs.TermChecks.{agree, function_texts}
 use Rattle.ras_names.specs.FileChecks.{function_checks, constant_checks, initial_checks, variable_checks, column_checks, relation_checks, above_functions, above_constants, above_variables, above_relations, closes_cycle, first_fault}
 use Rattle.ras_names.proofs.Numbered.{AreNumbered}
 use Rattle.ras_names.proofs.Together.{one_by_one-to, one_by_one-from, one_by_one-made, one_by_one-mapped, one_by_one-length, one_by_one-gives, one_by_one-weaker}
-use Rattle.ras_names.proofs.OneTerm.{one_value}
 use Rattle.ras_names.proofs.ClearNames.{sorts-numbered, constants-numbered}
 use Rattle.ras_names.proofs.Passing.{Passes, passed_first, passed_both, passed_each, passed-not}
-use Rattle.ras_names.proofs.Among.{text_same, map_from, below}
+use Rattle.ras_names.proofs.Among.{text_same, below}
 use Rattle.ras_names.proofs.NameLists.{sorts_are, constants_are}
 use Rattle.ras_names.proofs.PassTerms.{IsDeclared, IsFound, declared_found}
 use Rattle.ras_names.proofs.MadeNames.{IsPassed, passed, new-names, sorts, functions, constants, variables, relations, steps, columns-counted, within_limit}

@@ -15,6 +15,7 @@ use Rattle.ras_logic.specs.declared.problem.Problem.{Problem}
 use Rattle.ras_logic.specs.Schemas.{IsSort}
 use Rattle.ras_logic.specs.Shapes.{ShapeParts, IsRelation}
 use Rattle.ras_logic.specs.Formulas.{Fits, IsNoParam, HasNoParam, IsCube}
+use Rattle.ras_logic.proofs.ByPlace.{at_take, map-at, map_from, no_true, one_value}
 use Rattle.ras_system.specs.declared.bulk.Bulk.{Bulk}
 use Rattle.ras_system.specs.declared.transition.Transition.{Transition}
 use Rattle.ras_system.specs.Systems.{BulkFits, AreInGroups, IsTransition}
@@ -39,15 +40,15 @@ use Rattle.ras_names.specs.StepChecks.{relation_texts, row_checks, param_checks,
 use Rattle.ras_names.specs.FileChecks as checks
 use Rattle.ras_names.specs.FileChecks.{goal_count, goal_checks}
 use Rattle.ras_names.proofs.Together.{one_by_one-to, one_by_one-from, one_by_one-made, one_by_one-mapped, one_by_one-length, one_by_one-gives, one_by_one-weaker, one_by_one-more, part_from, parts_before}
-use Rattle.ras_names.proofs.OneTerm.{IsClear, one_value}
+use Rattle.ras_names.proofs.OneTerm.{IsClear}
 use Rattle.ras_names.proofs.OneStep.{each_clear}
-use Rattle.ras_names.proofs.ClearNames.{map-at, relations-numbered, sorts-numbered, step-clear, each-numbered, goal-clear}
+use Rattle.ras_names.proofs.ClearNames.{relations-numbered, sorts-numbered, step-clear, each-numbered, goal-clear}
 use Rattle.ras_names.proofs.Passing.{Passes, passed_first, passed_both, passed_each, passed_each_from, passed-not}
-use Rattle.ras_names.proofs.Among.{among_at, map_from, below}
+use Rattle.ras_names.proofs.Among.{among_at, below}
 use Rattle.ras_names.proofs.NameLists.{sorts_are, relations_are}
 use Rattle.ras_names.proofs.PassTerms.{IsDeclared, names, here}
 use Rattle.ras_names.proofs.PassSteps.{rows_are, params_are}
-use Rattle.ras_names.proofs.MadeNames.{IsPassed, IsInside, inside, rows-counted, params-counted, goal-rows, IsEach, each-parts, above-numbered, at_take, no_true, within_limit}
+use Rattle.ras_names.proofs.MadeNames.{IsPassed, IsInside, inside, rows-counted, params-counted, goal-rows, IsEach, each-parts, above-numbered, within_limit}
 use Rattle.ras_names.proofs.MadeTerms.{number_of, is_sort, made-disjunct}
 use Rattle.ras_names.proofs.MadeSteps.{lower, all-apart, IsGuardMade, made-guard, AreUpdatesMade, made-updates, made-case}
 

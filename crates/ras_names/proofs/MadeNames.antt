@@ -3,6 +3,7 @@ use Rattle.std.proofs.Common.{◌≡◌, ℕ, zero, suc, ◌+◌, ◌<◌, ◌�
 use Rattle.std.specs.Prelude.{◌⊎◌, Option, Some, None, slice_get, All, Contains, nat_le}
 use Rattle.std.proofs.lemmas.Bool.{cases_lt, le-leb}
 use Rattle.std.proofs.lemmas.Option.{slice_get-get_or}
+use Rattle.ras_logic.proofs.ByPlace.{all-from, at_take, contains-at, map-at, map_from, no_true, take_at}
 use Rattle.ras_syntax.specs.Grammar as grammar
 use Rattle.ras_syntax.specs.Grammar.{Text}
 use Rattle.ras_names.specs.declared.names.RelNames.{RelNames}
@@ -23,9 +24,8 @@ use Rattle.ras_names.specs.StepChecks.{relation_texts, row_checks, param_checks,
 use Rattle.ras_names.specs.FileChecks as checks
 use Rattle.ras_names.specs.FileChecks.{sort_checks, function_checks, constant_checks, initial_checks, variable_checks, column_checks, relation_checks, above_functions, above_constants, above_variables, above_relations, above_steps, step_checks, goal_count, goal_checks, closes_cycle}
 use Rattle.ras_names.proofs.Numbered.{in_left, in_right, in_either_at, AreNumbered}
-use Rattle.ras_names.proofs.ClearNames.{map-at, contains-at}
 use Rattle.ras_names.proofs.Passing.{Passes, passed_first, passed_both, passed_each}
-use Rattle.ras_names.proofs.Among.{among_at, map-map, map_from, take_at}
+use Rattle.ras_names.proofs.Among.{among_at, map-map}
 use Rattle.ras_names.proofs.NameLists.{both, columns_are, relations_above, step_texts, steps_above, shared_above}
 use Rattle.ras_names.proofs.PassSteps.{rows_are, params_are}
 
@@ -34,15 +34,6 @@ numbered-different names h i j d lt l e =
     let one : slice_get names i ≡ Some (get_or names i d) = slice_get-get_or names i d (omega (arith, lt, l)) in
     let other : slice_get names j ≡ Some (get_or names j d) = slice_get-get_or names j d l in
     let same : i ≡ j = h (get_or names j d) i j (one ∙ ap (λ (t : Text). Some t) e) other in absurd (omega (arith, lt, same))
-
-pub at_take : {X : Type 0} (n : ℕ) (xs : List X) (k : ℕ) (x : X) → k < n → slice_get xs k ≡ Some x → slice_get (take n xs) k ≡ Some x
-at_take zero xs k x lt e = absurd (omega (arith, lt))
-at_take (suc n) [] k x lt e = absurd (cc)
-at_take (suc n) (y ∷ xs) zero x lt e = e
-at_take (suc n) (y ∷ xs) (suc k) x lt e = at_take n xs k x (omega (arith, lt)) e
-
-pub no_true : (b : Bool) → b ≡ true → b ≡ false → ⊥
-no_true b h k = let e : ◌≡◌ {A = Bool} true false = sym h ∙ k in cc
 
 -- names one by one new below others
 pub fresh-numbered : {X : Type 0} (key : X → Text) (above : List Text) (xs : List X) → AreNumbered above
@@ -80,9 +71,6 @@ element_at (x ∷ xs) (suc k) lt = element_at xs k (omega (arith, lt))
 pub within_limit : {X : Type 0} (limit : ℕ) (xs : List X) → ((k : ℕ) (x : X) → slice_get xs k ≡ Some x → nat_le limit k ≡ false) → length xs ≤ limit
 within_limit limit xs each =
     ⊎_elim (λ more. let x = element_at xs limit more in absurd (no_true _ (le-leb limit limit (omega arith)) (each limit x.0 x.1))) (λ le. le) (cases_lt limit (length xs))
-
-pub all-from : {X : Type 0} (P : X → Type 0) (xs : List X) → ((k : ℕ) (x : X) → slice_get xs k ≡ Some x → P x) → All P xs
-all-from P xs f = λ k d lt. f k (get_or xs k d) (slice_get-get_or xs k d lt)
 
 -- what the checks of declared names of one kind give
 pub record IsCounted {X : Type 0} (limit : ℕ) (key : X → Text) (above : List Text) (xs : List X) : Type 0 where

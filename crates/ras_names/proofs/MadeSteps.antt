@@ -13,6 +13,7 @@ use Rattle.ras_logic.specs.Shapes.{ShapeParts, columns_of}
 use Rattle.ras_logic.specs.Terms.{sort_of, sort_of_base}
 use Rattle.ras_logic.specs.Formulas.{LiteralFits}
 use Rattle.ras_logic.proofs.TermSorts.{and_then_from}
+use Rattle.ras_logic.proofs.ByPlace.{any_at, at_take, map-at, map_from, no_true, one_value}
 use Rattle.ras_system.specs.declared.update.Target.{Target}
 use Rattle.ras_system.specs.declared.update.Target.TheVariants as target
 use Rattle.ras_system.specs.declared.update.Update.{Update}
@@ -37,32 +38,18 @@ use Rattle.ras_names.specs.StepChecks.{variable_texts, is_same_column, is_same_t
 use Rattle.ras_names.specs.Files.{IsSortNamed}
 use Rattle.ras_names.proofs.Numbered.{in_right}
 use Rattle.ras_names.proofs.Together.{one_by_one-to, one_by_one-from, one_by_one-made, one_by_one-mapped, one_by_one-length, one_by_one-gives, one_by_one-weaker}
-use Rattle.ras_names.proofs.OneTerm.{IsClear, one_value}
-use Rattle.ras_names.proofs.ClearNames.{map-at}
+use Rattle.ras_names.proofs.OneTerm.{IsClear}
 use Rattle.ras_names.proofs.Passing.{Passes, passed_first, passed_both, passed_each, passed-not}
-use Rattle.ras_names.proofs.Among.{same_text, among_at, map_from}
+use Rattle.ras_names.proofs.Among.{same_text, among_at}
 use Rattle.ras_names.proofs.NameLists.{vars_are}
 use Rattle.ras_names.proofs.PassTerms.{IsDeclared, names, here, checked, RowsDenote, ParamsDenote, column-good}
 use Rattle.ras_names.proofs.PassSteps.{target-good}
-use Rattle.ras_names.proofs.MadeNames.{at_take, no_true, within_limit}
+use Rattle.ras_names.proofs.MadeNames.{within_limit}
 use Rattle.ras_names.proofs.MadeTerms.{number_of, base-sorted, is_sort, agreed, cell-made, column-made, made-term, IsConjunctionMade, made-conjunction, made-disjunct}
 
 -- a number that is not beyond the limit
 pub lower : (limit n : ℕ) → nat_le limit n ≡ false → n < limit
 lower limit n h = ⊎_elim (λ lt. lt) (λ ge. absurd (no_true _ (le-leb limit n ge) h)) (cases_lt n limit)
-
-pub any_at : {X : Type 0} (test : X → Bool) (xs : List X) (k : ℕ) (x : X) → slice_get xs k ≡ Some x → test x ≡ true → list_any test xs ≡ true
-any_at test [] k x e h = absurd (cc)
-any_at {X} test (y ∷ xs) zero x e h = let same : y ≡ x = cc in here (test y) (ap test same ∙ h)
-  where
-    here : (b : Bool) → b ≡ true → (b || list_any test xs) ≡ true
-    here true q = refl
-    here false q = absurd (cc)
-any_at test (y ∷ xs) (suc k) x e h = later (test y) (any_at test xs k x e h)
-  where
-    later : (b : Bool) → list_any test xs ≡ true → (b || list_any test xs) ≡ true
-    later true q = refl
-    later false q = q
 
 -- no two elements are related, where none is to an earlier one
 pub all-apart : {X : Type 0} (R : X → X → Type 0) (xs : List X) → ((i j : ℕ) (x y : X) → i < j → slice_get xs i ≡ Some x → slice_get xs j ≡ Some y → R x y) → AllPairs R xs

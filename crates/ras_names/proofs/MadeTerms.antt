@@ -37,13 +37,14 @@ use Rattle.ras_names.proofs.Numbered.{in_either_at, AreNumbered}
 use Rattle.ras_names.proofs.Together.{one_by_one-to, one_by_one-made, one_by_one-mapped, one_by_one-length, one_by_one-gives, one_by_one-weaker}
 use Rattle.ras_names.proofs.OneTerm.{IsClear}
 use Rattle.ras_names.proofs.OneStep.{is_undef_or_not}
-use Rattle.ras_names.proofs.ClearNames.{contains-at, map-at, relations-numbered, sorts-numbered}
+use Rattle.ras_names.proofs.ClearNames.{relations-numbered, sorts-numbered}
 use Rattle.ras_names.proofs.Passing.{Passes, passed_first, passed_both, passed_each, passed-not}
-use Rattle.ras_names.proofs.Among.{text_same, map_from, found_at}
+use Rattle.ras_names.proofs.Among.{text_same, found_at}
 use Rattle.ras_names.proofs.NameLists.{functions_are, constants_are, vars_are, relations_are, columns_are}
 use Rattle.ras_names.proofs.PassTerms.{IsDeclared, names, IsSortText, is_sort_text, IsFound, declared_found, here, checked, RowsDenote, ParamsDenote, cell-good, plain-good, plain_texts}
 use Rattle.ras_names.proofs.MadeNames.{within_limit}
 use Rattle.std.proofs.lemmas.Map.Views.{Contains-from_any}
+use Rattle.ras_logic.proofs.ByPlace.{contains-at, map-at, map_from}
 
 -- a name that is among others has a number
 pub number_of : (names : List Text) (name : Text) → is_among names name ≡ true → (k : ℕ) × HasNumber names name k

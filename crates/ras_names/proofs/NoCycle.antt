@@ -1,17 +1,18 @@
 -- Where the functions of a file denote acyclic ones, none of them closes a cycle.
-use Rattle.std.proofs.Common.{◌≡◌, ℕ, zero, suc, Bool, true, false, List, [], ◌∷◌, length, take, map, refl, sym, ◌∙◌, ap, subst, ⊎_elim, inl, inr}
-use Rattle.std.specs.Prelude.{◌⊎◌, ◌||◌, ◌&&◌, Some, slice_get, All, Contains}
+use Rattle.std.proofs.Common.{◌≡◌, ℕ, zero, suc, Bool, true, false, List, [], ◌∷◌, length, take, map, refl, sym, ◌∙◌, ap, subst, ⊎_elim}
+use Rattle.std.specs.Prelude.{◌&&◌, Some, slice_get, All, Contains}
 use Rattle.std.specs.List.{list_any}
 use Rattle.std.specs.Str.{bytes_eq}
 use Rattle.std.proofs.lemmas.Option.{slice_get-get_or}
 use Rattle.std.proofs.lemmas.Bool.{and_parts}
 use Rattle.std.proofs.lemmas.List.Folds.{Any-from_list_any}
-use Rattle.std.proofs.lemmas.List.Elements.{All-cons, All-nil}
+use Rattle.std.proofs.lemmas.List.Elements.{All-cons}
 use Rattle.ras_logic.specs.declared.ids.SortId.{SortId}
 use Rattle.ras_logic.specs.declared.function.FunDecl.{FunDecl}
-use Rattle.ras_logic.specs.Schemas.{IsLinked, IsChain}
-use Rattle.ras_logic.specs.SchemaFaults.{end_of}
+use Rattle.ras_logic.specs.Schemas.{IsChain}
 use Rattle.ras_logic.proofs.Rounds.{acyclic-no_cycle}
+use Rattle.ras_logic.proofs.Walks.{Walk, walked, either_true}
+use Rattle.ras_logic.proofs.ByPlace.{at_contains, map-at, not_true, take_at}
 use Rattle.ras_system.specs.Systems.{SystemParts}
 use Rattle.ras_syntax.specs.Grammar.{Text}
 use Rattle.ras_names.specs.declared.names.Names.{Names}
@@ -21,32 +22,10 @@ use Rattle.ras_names.specs.Files.{FunctionDenotes, FileDenotes}
 use Rattle.ras_names.specs.Placed as placed
 use Rattle.ras_names.specs.Unplaced.{function_of, file_of}
 use Rattle.ras_names.specs.FileChecks.{leads, closes_cycle}
-use Rattle.ras_names.proofs.Numbered.{at_contains}
 use Rattle.ras_names.proofs.Together.{one_by_one-to}
-use Rattle.ras_names.proofs.ClearNames.{map-at, sorts-numbered}
-use Rattle.ras_names.proofs.Passing.{not_true}
-use Rattle.ras_names.proofs.Among.{text_same, take_at}
+use Rattle.ras_names.proofs.ClearNames.{sorts-numbered}
+use Rattle.ras_names.proofs.Among.{text_same}
 use Rattle.ras_names.proofs.PassTerms.{declared_by, names}
-
-either_true : (a b : Bool) → (a || b) ≡ true → (a ≡ true) ⊎ (b ≡ true)
-either_true true b h = inl refl
-either_true false b h = inr h
-
--- linked functions from a sort to a sort
-abbrev pub Walk : List FunDecl → List FunDecl → SortId → SortId → Type 0
-Walk functions [] a b = a ≡ b
-Walk functions (d ∷ ds) a b = Contains functions d × (d.source ≡ a) × Walk functions ds d.target b
-
-pub record IsWalked (functions : List FunDecl) (d : FunDecl) (ds : List FunDecl) (b : SortId) : Type 0 where
-  pub linked : IsLinked (d ∷ ds)
-  pub known : All (Contains functions) ds
-  pub ends : end_of d ds ≡ b
-
-pub walked : (functions : List FunDecl) (d : FunDecl) (ds : List FunDecl) (b : SortId) → Walk functions ds d.target b → IsWalked functions d ds b
-walked functions d [] b w = record { linked = tt; known = All-nil (Contains functions); ends = w }
-walked functions d (e ∷ ds) b w =
-    let rest = walked functions e ds b w.2 in
-    record { linked = (sym w.1, rest.linked); known = All-cons (Contains functions) e ds w.0 rest.known; ends = rest.ends }
 
 module _ (p : placed.File) (system : SystemParts) (denotes : FileDenotes (file_of p) system (names_of (file_of p))) where
   abbrev functions : List FunDecl

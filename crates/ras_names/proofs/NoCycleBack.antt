@@ -11,7 +11,8 @@ use Rattle.ras_logic.specs.declared.ids.SortId.{SortId}
 use Rattle.ras_logic.specs.declared.function.FunDecl.{FunDecl}
 use Rattle.ras_logic.specs.Schemas.{HasSorts, IsChain, IsAcyclic}
 use Rattle.ras_logic.specs.SchemaFaults.{end_of, HasCycle}
-use Rattle.ras_logic.proofs.Rounds.{HasLongChain-cycle}
+use Rattle.ras_logic.proofs.Walks.{Walk, walked, acyclic_from, way_back}
+use Rattle.ras_logic.proofs.ByPlace.{all-from, any_at, at_contains, at_take, contains-at, map_from, no_true, one_value, or_first, or_second, take_at}
 use Rattle.ras_syntax.specs.Grammar.{Text}
 use Rattle.ras_names.specs.Lists.{HasNumber, OneByOne}
 use Rattle.ras_names.specs.FileNames.{names_of}
@@ -19,68 +20,8 @@ use Rattle.ras_names.specs.Files.{FunctionDenotes}
 use Rattle.ras_names.specs.Placed as placed
 use Rattle.ras_names.specs.Unplaced.{function_of, file_of}
 use Rattle.ras_names.specs.FileChecks.{leads, closes_cycle}
-use Rattle.ras_names.proofs.Numbered.{at_contains}
 use Rattle.ras_names.proofs.Together.{one_by_one-from}
-use Rattle.ras_names.proofs.OneTerm.{one_value}
-use Rattle.ras_names.proofs.ClearNames.{contains-at}
-use Rattle.ras_names.proofs.Among.{same_text, take_at, map_from}
-use Rattle.ras_names.proofs.MadeNames.{at_take, no_true, all-from}
-use Rattle.ras_names.proofs.MadeSteps.{any_at}
-use Rattle.ras_names.proofs.NoCycle.{Walk, walked}
-
-acyclic_from : (sorts : ℕ) (functions : List FunDecl) → All (HasSorts sorts) functions → (HasCycle functions → ⊥) → IsAcyclic sorts functions
-acyclic_from sorts functions good none f fs chain =
-    ⊎_elim (λ lt. lt) (λ long. absurd (none (HasLongChain-cycle sorts functions good (f, fs, chain, long)))) (cases_lt (length (f ∷ fs)) sorts)
-
--- linked functions one after the other
-walk-append : (functions ds es : List FunDecl) (a b c : SortId) → Walk functions ds a b → Walk functions es b c → Walk functions (ds ++ es) a c
-walk-append functions [] es a b c w v = subst (λ (s : SortId). Walk functions es s c) (sym w) v
-walk-append functions (d ∷ ds) es a b c w v = (w.0, w.1, walk-append functions ds es d.target b c w.2 v)
-
--- a chain that ends at a sort
-chain-walk : (functions : List FunDecl) (f : FunDecl) (fs : List FunDecl) (b : SortId) → IsChain functions (f ∷ fs) → end_of f fs ≡ b → Walk functions (f ∷ fs) f.source b
-chain-walk functions f [] b c e = (All-head (Contains functions) f [] c.known, refl, e)
-chain-walk functions f (g ∷ fs) b c e =
-    let rest : IsChain functions (g ∷ fs) = record { known = All-tail (Contains functions) f (g ∷ fs) c.known; linked = c.linked.1 } in
-    let w = chain-walk functions g fs b rest e in (All-head (Contains functions) f (g ∷ fs) c.known, refl, (w.0, sym c.linked.0, w.2))
-
-module _ (ds : List FunDecl) (k : ℕ) (d : FunDecl) (at : slice_get ds k ≡ Some d) where
-  -- a function among those up to this one is an earlier one, or this one
-  known_before : (x : FunDecl) → Contains (take (k + 1) ds) x → Contains (take k ds) x ⊎ (x ≡ d)
-  known_before x c =
-      let i = contains-at (take (k + 1) ds) x c in
-      let t = take_at (k + 1) ds i.0 x i.1 in
-      ⊎_elim (λ lt. inl (at_contains (take k ds) i.0 x (at_take k ds i.0 x lt t.0)))
-      (λ ge. let same : i.0 ≡ k = omega (arith, ge, t.1) in inr (one_value ds k x d (subst (λ (n : ℕ). slice_get ds n ≡ Some x) same t.0) at))
-      (cases_lt i.0 k)
-
-  -- before the first use of the function, or all
-  first_use : (w : List FunDecl) (a b : SortId) → Walk (take (k + 1) ds) w a b → Walk (take k ds) w a b ⊎ ((u : List FunDecl) × Walk (take k ds) u a d.source)
-  first_use [] a b h = inl h
-  first_use (x ∷ w) a b h =
-      ⊎_elim (λ earlier. ⊎_elim (λ rest. inl (earlier, h.1, rest)) (λ u. inr (x ∷ u.0, (earlier, h.1, u.1))) (first_use w x.target b h.2))
-      (λ this. inr ([], sym h.1 ∙ ap (λ (e : FunDecl). e.source) this)) (known_before x h.0)
-
-  -- behind the last use of the function, or all
-  last_use : (w : List FunDecl) (a b : SortId) → Walk (take (k + 1) ds) w a b → Walk (take k ds) w a b ⊎ ((v : List FunDecl) × Walk (take k ds) v d.target b)
-  last_use [] a b h = inl h
-  last_use (x ∷ w) a b h =
-      ⊎_elim (λ rest. ⊎_elim (λ earlier. inl (earlier, h.1, rest)) (λ this. inr (w, subst (λ (e : FunDecl). Walk (take k ds) w e.target b) this rest)) (known_before x h.0))
-      (λ v. inr v) (last_use w x.target b h.2)
-
-  closed : (f : FunDecl) (fs : List FunDecl) → Walk (take k ds) (f ∷ fs) f.source f.source → HasCycle (take k ds)
-  closed f fs w =
-      let is = walked (take k ds) f fs f.source w.2 in
-      (f, fs, record { known = All-cons (Contains (take k ds)) f fs w.0 is.known; linked = is.linked }, is.ends)
-
-  -- a new cycle leads from the function's target back to its source
-  pub way_back : HasCycle (take (k + 1) ds) → (HasCycle (take k ds) → ⊥) → (w : List FunDecl) × Walk (take k ds) w d.target d.source
-  way_back c none =
-      let f : FunDecl = c.0 in
-      let walk = chain-walk (take (k + 1) ds) f c.1 f.source c.2 c.3 in
-      let last = ⊎_elim (λ all. absurd (none (closed f c.1 all))) (λ v. v) (last_use (f ∷ c.1) f.source f.source walk) in
-      let first = ⊎_elim (λ all. absurd (none (closed f c.1 all))) (λ u. u) (first_use (f ∷ c.1) f.source f.source walk) in
-      (last.0 ++ first.0, walk-append (take k ds) last.0 first.0 d.target f.source d.source last.1 first.1)
+use Rattle.ras_names.proofs.Among.{same_text}
 
 module _ (p : placed.File) (ds : List FunDecl) (denotes : OneByOne (FunctionDenotes (names_of (file_of p))) (map function_of p.functions) ds) (count : ℕ) (good : All (HasSorts count) ds) where
   abbrev names_sorts : List Text
@@ -88,14 +29,6 @@ module _ (p : placed.File) (ds : List FunDecl) (denotes : OneByOne (FunctionDeno
 
   one_text : (from to : Text) (a b : SortId) → HasNumber names_sorts from a.n → HasNumber names_sorts to b.n → a ≡ b → from ≡ to
   one_text from to a b h k e = one_value names_sorts b.n from to (subst (λ (s : SortId). HasNumber names_sorts from s.n) e h) k
-
-  or_first : (a b : Bool) → a ≡ true → (a || b) ≡ true
-  or_first true b h = refl
-  or_first false b h = absurd (cc)
-
-  or_second : (a b : Bool) → b ≡ true → (a || b) ≡ true
-  or_second true b h = refl
-  or_second false b h = h
 
   -- linked functions among the first k are found
   walk-leads : (k : ℕ) (w : List FunDecl) (n : ℕ) (from to : Text) (a b : SortId) → Walk (take k ds) w a b → length w ≤ n → HasNumber names_sorts from a.n → HasNumber names_sorts to b.n

@@ -3,6 +3,7 @@ use Rattle.std.proofs.Common.{◌≡◌, ℕ, zero, suc, ◌+◌, ◌<◌, List,
 use Rattle.std.specs.Prelude.{slice_get, Some, Contains, ◌⊎◌}
 use Rattle.std.proofs.lemmas.Option.{slice_get_within, get_or_from_slice_get}
 use Rattle.std.proofs.lemmas.Bool.{cases_lt}
+use Rattle.ras_logic.proofs.ByPlace.{at_contains}
 use Rattle.ras_syntax.specs.Grammar.{Text}
 use Rattle.ras_names.specs.Lists.{HasNumber, AreDifferent}
 
@@ -23,9 +24,6 @@ pub in_either : {X : Type 0} (xs ys : List X) (k : ℕ) (x : X) → slice_get (x
 in_either [] ys k x e = inr (k, e)
 in_either (z ∷ xs) ys zero x e = inl e
 in_either (z ∷ xs) ys (suc k) x e = in_either xs ys k x e
-
-pub at_contains : {X : Type 0} (xs : List X) (k : ℕ) (x : X) → slice_get xs k ≡ Some x → Contains xs x
-at_contains xs k x e = (k, slice_get_within xs k x e, get_or_from_slice_get xs k x x e)
 
 -- each name has one number
 abbrev pub AreNumbered : List Text → Type 0

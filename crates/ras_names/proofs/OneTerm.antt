@@ -11,6 +11,7 @@ use Rattle.ras_logic.specs.declared.term.Term.{Term}
 use Rattle.ras_logic.specs.Shapes.{ShapeParts}
 use Rattle.ras_logic.specs.Terms.{base_term, image_term, sort_of, sort_of_base, sort_after, sort_along}
 use Rattle.ras_logic.proofs.TermSorts.{and_then_through, and_then_from, sort_after-step, sort_along-append, undef-sort}
+use Rattle.ras_logic.proofs.ByPlace.{one_value}
 use Rattle.ras_syntax.specs.Grammar as grammar
 use Rattle.ras_syntax.specs.Grammar.{Text}
 use Rattle.ras_names.specs.declared.names.RelNames.{RelNames}
@@ -57,9 +58,6 @@ image-inside shape rows params t f s h =
 
 some_is : {X : Type 0} (x y : X) → Some x ≡ Some y → x ≡ y
 some_is x y e = cc
-
-pub one_value : {X : Type 0} (xs : List X) (k : ℕ) (x y : X) → slice_get xs k ≡ Some x → slice_get xs k ≡ Some y → x ≡ y
-one_value xs k x y a b = some_is x y (sym a ∙ b)
 
 module _ (scope : Scope) (clear : IsClear scope) where
   named-unique : (name : Text) (b c : Base) → IsNamed scope name b → IsNamed scope name c → b ≡ c

@@ -9,6 +9,7 @@ use Rattle.ras_logic.specs.declared.term.Base.TheVariants as base
 use Rattle.ras_logic.specs.Shapes.{ShapeParts, columns_of}
 use Rattle.ras_logic.specs.Formulas.{LiteralFits}
 use Rattle.ras_logic.proofs.TermSorts.{and_then_through}
+use Rattle.ras_logic.proofs.ByPlace.{at_contains, map-at, map_from, one_value, take_at}
 use Rattle.ras_system.specs.declared.bulk.Assign.{Assign}
 use Rattle.ras_system.specs.declared.bulk.Bulk.{Bulk}
 use Rattle.ras_system.specs.declared.transition.Transition.{Transition}
@@ -34,12 +35,11 @@ use Rattle.ras_names.specs.TermChecks.{Scope, agree, columns_named, term_sort, t
 use Rattle.ras_names.specs.StepChecks.{relation_texts, row_checks, param_checks, update_checks, assignment_checks, case_checks, case_count, with_row, each_checks, inside_checks}
 use Rattle.ras_names.proofs.Numbered.{in_right, AreNumbered, different-numbered, left-numbered}
 use Rattle.ras_names.proofs.Together.{one_by_one-at, one_by_one-to, one_by_one-map, one_by_one-length, one_by_one-more, part_at}
-use Rattle.ras_names.proofs.OneTerm.{IsClear, cell-unique, one_value}
+use Rattle.ras_names.proofs.OneTerm.{IsClear, cell-unique}
 use Rattle.ras_names.proofs.OneStep.{each_clear}
-use Rattle.ras_names.proofs.ClearNames.{map-at, all-at, relations-numbered, sorts-numbered, step-clear, each-numbered}
-use Rattle.ras_names.proofs.Numbered.{at_contains}
+use Rattle.ras_names.proofs.ClearNames.{all-at, relations-numbered, sorts-numbered, step-clear, each-numbered}
 use Rattle.ras_names.proofs.Passing.{Passes, pass_first, pass_one, pass_both, pass_each, pass_each_from, not-passes}
-use Rattle.ras_names.proofs.Among.{among_at, not_among, take_at, map_from, below}
+use Rattle.ras_names.proofs.Among.{among_at, not_among, below}
 use Rattle.ras_names.proofs.PassTerms.{declared_by, bare-sort, some_not_none, names, IsSortText, is_sort_text, agree-good, column-good, IsGoodColumn, here, checked, RowsDenote, ParamsDenote, within-good, term-passes, conjunction-passes}
 use Rattle.ras_names.proofs.PassSteps.{rows_are, params_are, apart_at, relation_known, rows-pass, params-pass, updates-pass, guard-passes}
 

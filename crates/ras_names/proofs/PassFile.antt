@@ -7,6 +7,7 @@ use Rattle.ras_logic.specs.declared.ids.SortId.{SortId}
 use Rattle.ras_logic.specs.declared.ids.ConstId.{ConstId}
 use Rattle.ras_logic.specs.declared.problem.Problem.{Problem}
 use Rattle.ras_logic.specs.Formulas.{LiteralFits, Fits}
+use Rattle.ras_logic.proofs.ByPlace.{map-at, map_from}
 use Rattle.ras_system.specs.Systems.{SystemParts, IsTransition}
 use Rattle.ras_system.specs.SystemFaults.{HasTransitionLimits, HasGoalLimits}
 use Rattle.ras_syntax.specs.Grammar as grammar
@@ -37,11 +38,11 @@ use Rattle.ras_names.specs.FileChecks.{closes_cycle, sort_checks, function_check
 use Rattle.ras_names.proofs.Numbered.{AreNumbered, different-numbered}
 use Rattle.ras_names.proofs.Together.{one_by_one-at, one_by_one-to, one_by_one-map, part_at}
 use Rattle.ras_names.proofs.OneTerm.{IsClear}
-use Rattle.ras_names.proofs.ClearNames.{map-at, all-at, goal-clear}
+use Rattle.ras_names.proofs.ClearNames.{all-at, goal-clear}
 use Rattle.ras_names.proofs.ClearNames as clear
 use Rattle.ras_names.proofs.NameLists.{both, sorts_are, constants_are, functions_above, constants_above, variables_above, relations_above, step_texts, steps_above, shared_above}
 use Rattle.ras_names.proofs.Passing.{Passes, pass_first, pass_one, pass_both, pass_each, pass_each_from, not-passes}
-use Rattle.ras_names.proofs.Among.{fresh, map-map, map_from, below}
+use Rattle.ras_names.proofs.Among.{fresh, map-map, below}
 use Rattle.ras_names.proofs.PassTerms.{declared_by, names, IsSortText, agree-good, some_not_none, IsFound, declared_found, disjunct-passes}
 use Rattle.ras_names.proofs.PassSteps.{rows_are, params_are, sort_known, rows-pass}
 use Rattle.ras_names.proofs.PassEach.{inside-passes}

@@ -14,6 +14,7 @@ use Rattle.ras_logic.specs.declared.literal.Literal.{Literal}
 use Rattle.ras_logic.specs.Shapes.{ShapeParts}
 use Rattle.ras_logic.specs.Terms.{sort_of}
 use Rattle.ras_logic.specs.Formulas.{LiteralFits}
+use Rattle.ras_logic.proofs.ByPlace.{map-at, map_from, not_true, take_at}
 use Rattle.ras_system.specs.declared.update.Target.{Target}
 use Rattle.ras_system.specs.declared.update.Target.TheVariants as target
 use Rattle.ras_system.specs.declared.update.Update.{Update}
@@ -38,10 +39,10 @@ use Rattle.ras_names.proofs.Numbered.{AreNumbered}
 use Rattle.ras_names.proofs.Together.{one_by_one-at, one_by_one-to, one_by_one-map}
 use Rattle.ras_names.proofs.OneTerm.{IsClear}
 use Rattle.ras_names.proofs.OneStep.{target-unique}
-use Rattle.ras_names.proofs.ClearNames.{map-at, all-at}
+use Rattle.ras_names.proofs.ClearNames.{all-at}
 use Rattle.ras_names.proofs.NameLists.{sorts_are, vars_are, relations_are}
-use Rattle.ras_names.proofs.Passing.{Passes, pass_first, pass_one, pass_both, pass_each, not-passes, not_true}
-use Rattle.ras_names.proofs.Among.{text_same, among_at, take_at, fresh, map-map, map_from, found_at, below}
+use Rattle.ras_names.proofs.Passing.{Passes, pass_first, pass_one, pass_both, pass_each, not-passes}
+use Rattle.ras_names.proofs.Among.{text_same, among_at, fresh, map-map, found_at, below}
 use Rattle.ras_names.proofs.PassTerms.{IsDeclared, bare-sort, some_not_none, names, IsSortText, agree-good, here, checked, RowsDenote, ParamsDenote, cell-good, within-good, term-passes, disjunct-passes}
 
 pub rows_are : (rows : List Declared) → names_of_rows (map row_of rows) ≡ declared_texts rows

@@ -15,6 +15,7 @@ use Rattle.ras_logic.specs.Shapes.{ShapeParts, columns_of}
 use Rattle.ras_logic.specs.Terms.{base_term, sort_of, sort_of_base, sort_along}
 use Rattle.ras_logic.specs.Formulas.{LiteralFits}
 use Rattle.ras_logic.proofs.TermSorts.{and_then_through}
+use Rattle.ras_logic.proofs.ByPlace.{map-at, map_from, one_value}
 use Rattle.ras_system.specs.Systems.{SystemParts}
 use Rattle.ras_syntax.specs.Grammar as grammar
 use Rattle.ras_syntax.specs.Grammar.{Text}
@@ -35,11 +36,11 @@ use Rattle.ras_names.specs.Checks.{Check, check, is_among, declared_texts, decla
 use Rattle.ras_names.specs.TermChecks.{Scope, agree, variable_sort, columns_named, function_named, function_texts, source_of, target_of, plain_names, columns_of_row, cell_checks, cell_sort, base_checks, base_sort, sort_within, argument_checks, term_sort, term_checks, literal_checks, conjunction_checks, disjunct_checks}
 use Rattle.ras_names.proofs.Numbered.{in_left, in_right, AreNumbered, different-numbered, numbered-append, apart-append}
 use Rattle.ras_names.proofs.Together.{one_by_one-at, one_by_one-to, one_by_one-map}
-use Rattle.ras_names.proofs.OneTerm.{IsClear, image-inside, one_value}
-use Rattle.ras_names.proofs.ClearNames.{relations-numbered, map-at, all-at}
+use Rattle.ras_names.proofs.OneTerm.{IsClear, image-inside}
+use Rattle.ras_names.proofs.ClearNames.{relations-numbered, all-at}
 use Rattle.ras_names.proofs.NameLists.{functions_are, constants_are, vars_are, relations_are, columns_are}
 use Rattle.ras_names.proofs.Passing.{Passes, pass_first, pass_one, pass_both, pass_each, not-passes}
-use Rattle.ras_names.proofs.Among.{same_text, among_at, map-map, map_from, found_at, below}
+use Rattle.ras_names.proofs.Among.{same_text, among_at, map-map, found_at, below}
 
 -- what is declared with a name
 pub record IsFound (ds : List Declared) (name : Text) (d : Declared) : Type 0 where

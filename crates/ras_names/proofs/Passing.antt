@@ -40,10 +40,6 @@ pub not-passes : (b : Bool) → b ≡ true → not b ≡ false
 not-passes true h = refl
 not-passes false h = absurd (cc)
 
-pub not_true : (b : Bool) → (b ≡ true → ⊥) → b ≡ false
-not_true true h = absurd (h refl)
-not_true false h = refl
-
 -- the other way round: where none of the checks fails, each passes
 pub passed_first : (c : Check) (checks : List Check) → Passes (c ∷ checks) → (c.fails ≡ false) × Passes checks
 passed_first c checks h = go c.fails refl h

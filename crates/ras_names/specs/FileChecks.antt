@@ -1,7 +1,7 @@
 -- All checks of a file in order, and its first fault.
-use Rattle.std.specs.Prelude.{ℕ, zero, suc, ◌+◌, Bool, not, ◌&&◌, ◌||◌, List, [], ◌∷◌, ◌++◌, Option, Some, None, map, length, take, flat_map}
-use Rattle.std.specs.List.{list_any}
+use Rattle.std.specs.Prelude.{ℕ, ◌+◌, Bool, not, List, [], ◌∷◌, ◌++◌, Option, Some, None, map, length, take, flat_map}
 use Rattle.std.specs.Str.{bytes_eq}
+use Rattle.ras_logic.specs.Leading as lead
 use Rattle.ras_syntax.specs.Grammar.{Text}
 use Rattle.ras_names.specs.declared.spec_fault.SpecKind.TheVariants.{WrongSort, Cycle}
 use Rattle.ras_names.specs.declared.spec_fault.SpecFault.{SpecFault}
@@ -13,9 +13,7 @@ use Rattle.ras_names.specs.StepChecks.{variable_texts, relation_texts, row_check
 
 -- none or more of the functions, at most n, lead one after the other from a sort to a sort
 abbrev pub leads : List placed.Function → ℕ → Text → Text → Bool
-leads functions zero from to = bytes_eq from to
-leads functions (suc n) from to =
-    bytes_eq from to || list_any (λ (f : placed.Function). bytes_eq f.source.text from && leads functions n f.target.text to) functions
+leads = lead.leads bytes_eq (λ (f : placed.Function). f.source.text) (λ (f : placed.Function). f.target.text)
 
 -- The functions above lead from the target of the function back to its source. Without a cycle among them they are fewer
 -- than the sorts.

@@ -8,6 +8,7 @@ use Rattle.ras_logic.specs.declared.literal.Literal.{Literal}
 use Rattle.ras_logic.specs.declared.problem.Problem.{Problem}
 use Rattle.ras_logic.specs.Shapes.{ShapeParts}
 use Rattle.ras_logic.specs.Formulas.{LiteralFits, Fits}
+use Rattle.ras_logic.proofs.ByPlace.{map-at}
 use Rattle.ras_system.specs.declared.update.Update.{Update}
 use Rattle.ras_system.specs.declared.bulk.Bulk.{Bulk}
 use Rattle.ras_system.specs.declared.transition.Transition.{Transition}
@@ -30,7 +31,7 @@ use Rattle.ras_names.specs.StepChecks.{with_row}
 use Rattle.ras_names.proofs.Together.{one_by_one-map, one_by_one-more, one_by_one-all, pair_from}
 use Rattle.ras_names.proofs.OneTerm.{IsClear}
 use Rattle.ras_names.proofs.OneStep.{each_clear}
-use Rattle.ras_names.proofs.ClearNames.{map-at, relations-numbered, sorts-numbered, step-clear, each-numbered, goal-clear}
+use Rattle.ras_names.proofs.ClearNames.{relations-numbered, sorts-numbered, step-clear, each-numbered, goal-clear}
 use Rattle.ras_names.proofs.PassTerms.{IsDeclared, names, here, RowsDenote, ParamsDenote}
 use Rattle.ras_names.proofs.PassSteps.{rows_are, params_are}
 use Rattle.ras_numbering.specs.Numbers.{declared_sort, declared_relation}

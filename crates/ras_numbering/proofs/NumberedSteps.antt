@@ -9,6 +9,7 @@ use Rattle.ras_logic.specs.declared.literal.Literal.{Literal}
 use Rattle.ras_logic.specs.Shapes.{ShapeParts, columns_of}
 use Rattle.ras_logic.specs.Formulas.{LiteralFits}
 use Rattle.ras_logic.proofs.TermSorts.{and_then_through}
+use Rattle.ras_logic.proofs.ByPlace.{one_value}
 use Rattle.ras_system.specs.declared.update.Target.{Target}
 use Rattle.ras_system.specs.declared.update.Target.TheVariants as target
 use Rattle.ras_system.specs.declared.update.Update.{Update}
@@ -30,7 +31,7 @@ use Rattle.ras_names.specs.TermChecks.{Scope, columns_named}
 use Rattle.ras_names.specs.StepChecks.{variable_texts, target_sort}
 use Rattle.ras_names.proofs.Numbered.{AreNumbered, in_right}
 use Rattle.ras_names.proofs.Together.{one_by_one-map, one_by_one-all}
-use Rattle.ras_names.proofs.OneTerm.{IsClear, one_value}
+use Rattle.ras_names.proofs.OneTerm.{IsClear}
 use Rattle.ras_names.proofs.NameLists.{vars_are}
 use Rattle.ras_names.proofs.PassTerms.{IsDeclared, names, is_sort_text, some_not_none, bare-sort, column-good, IsGoodColumn, here, checked, RowsDenote, ParamsDenote}
 use Rattle.ras_names.proofs.PassSteps.{target-good, IsGoodTarget}

@@ -17,6 +17,7 @@ use Rattle.ras_logic.specs.Shapes.{ShapeParts}
 use Rattle.ras_logic.specs.Terms.{base_term, image_term, sort_of}
 use Rattle.ras_logic.specs.Formulas.{LiteralFits}
 use Rattle.ras_logic.proofs.TermSorts.{undef-sort}
+use Rattle.ras_logic.proofs.ByPlace.{map-at, map_from, one_value}
 use Rattle.ras_syntax.specs.Grammar as grammar
 use Rattle.ras_syntax.specs.Grammar.{Text}
 use Rattle.ras_names.specs.declared.names.RelNames.{RelNames}
@@ -36,10 +37,10 @@ use Rattle.ras_names.specs.TermChecks.{Scope, columns_named, function_named, fun
 use Rattle.ras_names.specs.StepChecks.{variable_texts, relation_texts}
 use Rattle.ras_names.proofs.Numbered.{AreNumbered, different-numbered}
 use Rattle.ras_names.proofs.Together.{one_by_one-at, one_by_one-map, one_by_one-all}
-use Rattle.ras_names.proofs.OneTerm.{IsClear, image-inside, one_value}
-use Rattle.ras_names.proofs.ClearNames.{relations-numbered, sorts-numbered, constants-numbered, map-at, all-at}
+use Rattle.ras_names.proofs.OneTerm.{IsClear, image-inside}
+use Rattle.ras_names.proofs.ClearNames.{relations-numbered, sorts-numbered, constants-numbered, all-at}
 use Rattle.ras_names.proofs.NameLists.{sorts_are, functions_are, constants_are, vars_are, relations_are, columns_are}
-use Rattle.ras_names.proofs.Among.{map_from, found_at}
+use Rattle.ras_names.proofs.Among.{found_at}
 use Rattle.ras_names.proofs.PassTerms.{IsDeclared, names, IsSortText, is_sort_text, IsFound, declared_found, some_not_none, here, checked, RowsDenote, ParamsDenote, within-good}
 use Rattle.ras_numbering.specs.Numbers.{number_in, sort_named, function_of_name, constant_of_name, relation_named}
 use Rattle.ras_numbering.specs.TermValues.{plain_value, row_number, column_number, base_value, sort_or, wanted_within, term_value, literal_sort, literal_value, conjunction_value, guard_value}

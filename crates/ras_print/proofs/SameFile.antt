@@ -5,6 +5,7 @@ use Rattle.std.proofs.lemmas.List.Folds.{flat_map-map}
 use Rattle.ras_logic.specs.declared.ids.SortId.{SortId}
 use Rattle.ras_logic.specs.declared.ids.ConstId.{ConstId}
 use Rattle.ras_logic.specs.declared.function.FunDecl.{FunDecl}
+use Rattle.ras_logic.proofs.ByPlace.{map-at}
 use Rattle.ras_system.specs.Systems.{SystemParts}
 use Rattle.ras_syntax.specs.Grammar as grammar
 use Rattle.ras_syntax.specs.Grammar.{Text}
@@ -16,7 +17,7 @@ use Rattle.ras_names.specs.FileNames.{names_of, names_of_relation, names_of_step
 use Rattle.ras_names.specs.Steps.{StepDenotes}
 use Rattle.ras_names.specs.Files.{IsSortNamed, FunctionDenotes, InitialDenotes, ColumnsDenote, FileDenotes}
 use Rattle.ras_names.specs.Canonical.{line, joined, column_text, sort_line, function_line, constant_line, variable_line, relation_line, step_lines, goal_lines, canonical_text}
-use Rattle.ras_names.proofs.ClearNames.{map-at, relations-numbered}
+use Rattle.ras_names.proofs.ClearNames.{relations-numbered}
 use Rattle.ras_names.proofs.Together.{one_by_one-to}
 use Rattle.ras_print.specs.Lookup.{name_at, name_of_relation, names_of_columns, constant_name}
 use Rattle.ras_print.specs.Printed.{numbered, behind, numbered_list, sort_text, function_text, constant_text, variable_text, relation_column, relation_text, step_of, step_at, goal_texts, printed}

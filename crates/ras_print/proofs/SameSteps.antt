@@ -4,6 +4,7 @@ use Rattle.std.specs.Prelude.{slice_get, Some, AllPairs, nat_eq}
 use Rattle.ras_logic.specs.declared.ids.SortId.{SortId}
 use Rattle.ras_logic.specs.declared.ids.RelId.{RelId}
 use Rattle.ras_logic.specs.declared.problem.Problem.{Problem}
+use Rattle.ras_logic.proofs.ByPlace.{map-at, map_from}
 use Rattle.ras_system.specs.declared.bulk.Bulk.{Bulk}
 use Rattle.ras_system.specs.declared.transition.Transition.{Transition}
 use Rattle.ras_syntax.specs.Grammar as grammar
@@ -20,8 +21,6 @@ use Rattle.ras_names.specs.Steps.{RowDenotes, ParamDenotes, CaseDenotes, StepDen
 use Rattle.ras_names.specs.Terms.{Scope}
 use Rattle.ras_names.specs.Canonical.{row_line, param_line, guard_line, update_line, whole_case, each_lines, step_lines, goal_lines, line, inner_line, declared_text}
 use Rattle.ras_names.proofs.Numbered.{AreNumbered}
-use Rattle.ras_names.proofs.ClearNames.{map-at}
-use Rattle.ras_names.proofs.Among.{map_from}
 use Rattle.ras_print.specs.Lookup.{name_at, name_of_relation, relation_at}
 use Rattle.ras_print.specs.Items.{assignment_item, conjunction_item}
 use Rattle.ras_print.specs.Printed.{numbered, row_text, param_text, update_text, when_line, front, group, first_relation, case_of, each_text, each_texts, step_text, goal_item, goal_text, goal_texts, first_rows}

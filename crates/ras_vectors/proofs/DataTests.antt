@@ -1,5 +1,5 @@
 -- Tests of schemas, databases and formulas, and what it means that they pass.
-use Rattle.std.proofs.Common.{◌≡◌, ℕ, zero, suc, ◌<◌, Bool, true, false, List, [], ◌∷◌, length, get_or, refl, sym, ap, arith, nat_eq, nat_lt, ⊎_elim}
+use Rattle.std.proofs.Common.{◌≡◌, ℕ, zero, suc, ◌+◌, ◌<◌, Bool, true, false, List, [], ◌∷◌, length, get_or, take, refl, sym, ap, subst, arith, nat_eq, nat_lt, ⊎_elim}
 use Rattle.std.specs.Prelude.{Option, Some, None, All, not, ◌&&◌, ◌||◌, nat_le}
 use Rattle.std.specs.List.{list_all}
 use Rattle.std.proofs.lemmas.Option.{slice_get-get_or}
@@ -15,13 +15,12 @@ use Rattle.ras_logic.specs.declared.problem.Problem.{Problem}
 use Rattle.ras_logic.specs.declared.raw_db.RawDb.{RawDb}
 use Rattle.ras_logic.specs.declared.values.Values.{Values}
 use Rattle.ras_logic.specs.Schemas.{SchemaParts, IsSort, HasSorts, IsSchema}
-use Rattle.ras_logic.specs.Chains.{has_chain}
 use Rattle.ras_logic.specs.Shapes.{ShapeParts, IsShape, IsRelation}
 use Rattle.ras_logic.specs.Databases.{size_of, constant_of, IsTable, IsDatabase}
 use Rattle.ras_logic.specs.Terms.{sort_of}
 use Rattle.ras_logic.specs.Formulas.{LiteralFits, Fits, IsNoParam, HasNoParam, IsCube}
 use Rattle.ras_logic.specs.Truth.{holds, AllHold, AreElements, AreValues, Satisfies}
-use Rattle.ras_logic.proofs.Chains.{unmarked-acyclic}
+use Rattle.ras_logic.proofs.Walks.{lead, AreOpen, open_more, all_open}
 use Rattle.ras_vectors.proofs.ListTests.{each, each-at, list_all-All, unless, are_apart, are_apart-different}
 
 -- schemas and shapes
@@ -34,31 +33,37 @@ are_sorts sorts = list_all-All (is_sort sorts) (IsSort sorts) (λ s h. ltb-true 
 abbrev has_sorts : ℕ → FunDecl → Bool
 has_sorts sorts f = is_sort sorts f.source && is_sort sorts f.target
 
--- no chain that starts at one of the first n sorts has as many functions as there are sorts
-abbrev no_chain : List FunDecl → ℕ → ℕ → Bool
-no_chain functions sorts zero = true
-no_chain functions sorts (suc n) = not (has_chain functions sorts n) && no_chain functions sorts n
+-- whether the function of this number closes a cycle with those before it; there is one in any place that is asked for
+abbrev closes : List FunDecl → ℕ → ℕ → Bool
+closes functions sorts n =
+    let f = get_or functions n (record { source = record { n = 0 }; target = record { n = 0 }; total = true }) in lead (take n functions) sorts f.target.n f.source.n
 
-no_chain-below : (functions : List FunDecl) (sorts n : ℕ) → no_chain functions sorts n ≡ true → (s : ℕ) → s < n → has_chain functions sorts s ≡ false
-no_chain-below functions sorts zero h s lt = absurd (omega (arith, lt))
-no_chain-below functions sorts (suc n) h s lt =
-    let t = and_parts (not (has_chain functions sorts n)) (no_chain functions sorts n) h in
-    ⊎_elim (λ less. no_chain-below functions sorts n t.1 s less) (λ ge. let e : s ≡ n = omega (arith, lt, ge) in rw e (false_from (has_chain functions sorts n) t.0)) (cases_lt s n)
+-- none of the first n functions closes a cycle
+abbrev none_closes : List FunDecl → ℕ → ℕ → Bool
+none_closes functions sorts zero = true
+none_closes functions sorts (suc n) = not (closes functions sorts n) && none_closes functions sorts n
+
+are_open : (functions : List FunDecl) (sorts n : ℕ) → none_closes functions sorts n ≡ true → AreOpen functions sorts n
+are_open functions sorts zero h = λ j d lt at. absurd (omega (arith, lt))
+are_open functions sorts (suc n) h =
+    let t = and_parts (not (closes functions sorts n)) (none_closes functions sorts n) h in
+    let next : n + 1 ≡ suc n = omega arith in
+    subst (AreOpen functions sorts) next (open_more functions sorts n _ (are_open functions sorts n t.1) (false_from (closes functions sorts n) t.0))
   where
     false_from : (b : Bool) → not b ≡ true → b ≡ false
     false_from true h = absurd (cc)
     false_from false h = refl
 
 abbrev pub is_schema : SchemaParts → Bool
-is_schema s = list_all (has_sorts s.sorts) s.functions && (list_all (is_sort s.sorts) s.constants && no_chain s.functions s.sorts s.sorts)
+is_schema s = list_all (has_sorts s.sorts) s.functions && (list_all (is_sort s.sorts) s.constants && none_closes s.functions s.sorts (length s.functions))
 
 pub is_schema-passed : (s : SchemaParts) → is_schema s ≡ true → IsSchema s
 is_schema-passed s h =
-    let t = and_parts (list_all (has_sorts s.sorts) s.functions) (list_all (is_sort s.sorts) s.constants && no_chain s.functions s.sorts s.sorts) h in
-    let u = and_parts (list_all (is_sort s.sorts) s.constants) (no_chain s.functions s.sorts s.sorts) t.1 in
+    let t = and_parts (list_all (has_sorts s.sorts) s.functions) (list_all (is_sort s.sorts) s.constants && none_closes s.functions s.sorts (length s.functions)) h in
+    let u = and_parts (list_all (is_sort s.sorts) s.constants) (none_closes s.functions s.sorts (length s.functions)) t.1 in
     let functions : All (HasSorts s.sorts) s.functions = list_all-All (has_sorts s.sorts) (HasSorts s.sorts)
     (λ f g. let v = and_parts (is_sort s.sorts f.source) (is_sort s.sorts f.target) g in (ltb-true f.source.n s.sorts v.0, ltb-true f.target.n s.sorts v.1)) s.functions t.0 in
-    record { functions = functions; constants = are_sorts s.sorts s.constants u.0; acyclic = unmarked-acyclic s.functions s.sorts functions (no_chain-below s.functions s.sorts s.sorts u.1) }
+    record { functions = functions; constants = are_sorts s.sorts s.constants u.0; acyclic = all_open s.functions s.sorts (length s.functions) functions (omega arith) (are_open s.functions s.sorts (length s.functions) u.1) }
 
 abbrev pub is_shape : ShapeParts → Bool
 is_shape s = is_schema s.schema && (list_all (is_sort s.schema.sorts) s.vars

@@ -1,22 +1,18 @@
-use Rattle.std.proofs.Common.{◌≡◌, ◌<◌, ◌≤◌, ℕ, true, false, List, [], ◌∷◌, length, refl, sym, ◌∙◌, ap, subst, arith}
-use Rattle.std.specs.Prelude.{All, Result, Ok, Err}
-use Rattle.ras_syntax.specs.Grammar.{Text}
+use Rattle.std.proofs.Common.{◌≡◌, ◌<◌, ℕ, List, length, sym, ◌∙◌, ap, subst, arith}
+use Rattle.std.specs.Prelude.{All, Result, Err}
 use Rattle.ras_logic.specs.declared.function.FunDecl.{FunDecl}
 use Rattle.ras_logic.specs.Schemas.{HasSorts}
+use Rattle.ras_logic.proofs.Walks.{lead}
 use Rattle.ras_names.specs.declared.spec_fault.SpecKind.TheVariants.{Cycle}
-use Rattle.ras_names.specs.Placed as placed
-use Rattle.ras_names.specs.Checks.{Check, texts, is_among, declared_checks, used_check}
+use Rattle.ras_names.specs.Checks.{declared_checks}
 use Rattle.ras_names.specs.FileChecks.{function_checks}
 use Rattle.ras_names.proofs.Passing.{Passes}
 use Rattle.ras_elab.specs.declared.fault.SpecError.{SpecError}
 use Rattle.ras_elab.specs.declared.fault.SpecError.TheVariants.{Fault}
 use Rattle.ras_elab.specs.Answering.{Answers, Faults}
-use Rattle.ras_elab.specs.Leading.{leads_to}
-use Rattle.ras_elab.specs.Placing.{placed_name, placed_function}
+use Rattle.ras_elab.specs.Placing.{placed_function}
 use Rattle.ras_elab.proofs.Following.{handed}
-use Rattle.ras_elab.proofs.NewNames.{name_new, used_known}
 use Rattle.ras_elab.proofs.NamedLeads.{number_below}
-use Rattle.ras_elab.proofs.Places.{number_is}
 use Rattle.ras_elab.proofs.FunctionParts.{name_fails, source_fails, target_fails, closes_is, cycle_fails, all_pass}
 use Rattle.ras_elab.proofs.declarations.read_function.Goals as goal
 
@@ -71,10 +67,10 @@ returns-then-leads-clause-checks c = λ p n a.
     let count : c.len.result ≡ length above.names = c.len.ensures ∙ ap length c.names.ensures in
     let pass : Passes (declared_checks 256 (length above.names) shared f.name) = subst (λ (k : ℕ). Passes (declared_checks 256 k shared f.name)) count c.in_ok-check_name.ensures in
     let closes = closes_is p n shared sorts above f a c.in_ok-source.source.n c.in_ok-target.target.n c.in_ok-source.ensures.number c.in_ok-target.ensures.number c.in_ok-source.ensures.checks c.in_ok-target.ensures.checks in
-    let code : c.leads.result ≡ leads_to above.values.items (length sorts) c.in_ok-target.target.n c.in_ok-source.source.n =
-    c.leads.ensures ∙ (λ i. leads_to (c.values.ensures i) (c.count.ensures i) c.in_ok-target.target.n c.in_ok-source.source.n) in
+    let code : c.leads.result ≡ lead above.values.items (length sorts) c.in_ok-target.target.n c.in_ok-source.source.n =
+    c.leads.ensures ∙ (λ i. lead (c.values.ensures i) (c.len-sort_count.ensures i) c.in_ok-target.target.n c.in_ok-source.source.n) in
     let is = sym closes ∙ sym code ∙ c.if-leads.true in
-    let counted : c.count-then-leads.result ≡ length above.names = c.count-then-leads.ensures ∙ ap length c.names-then-leads.ensures in
+    let counted : c.count.result ≡ length above.names = c.count.ensures ∙ ap length c.names-then-leads.ensures in
     subst (λ (r : Result FunDecl SpecError). Answers (function_checks p n f) r) (sym (c.fault.ensures ∙ (λ i. Err (Fault (record { at = f.name.at; kind = Cycle (record { n = counted i }) })))))
     (cycle_fails p n shared sorts above f a pass c.in_ok-source.ensures.checks c.in_ok-target.ensures.checks is)
 
@@ -87,6 +83,6 @@ returns-clause-checks c = λ p n a.
     let count : c.len.result ≡ length above.names = c.len.ensures ∙ ap length c.names.ensures in
     let pass : Passes (declared_checks 256 (length above.names) shared f.name) = subst (λ (k : ℕ). Passes (declared_checks 256 k shared f.name)) count c.in_ok-check_name.ensures in
     let closes = closes_is p n shared sorts above f a c.in_ok-source.source.n c.in_ok-target.target.n c.in_ok-source.ensures.number c.in_ok-target.ensures.number c.in_ok-source.ensures.checks c.in_ok-target.ensures.checks in
-    let code : c.leads.result ≡ leads_to above.values.items (length sorts) c.in_ok-target.target.n c.in_ok-source.source.n =
-    c.leads.ensures ∙ (λ i. leads_to (c.values.ensures i) (c.count.ensures i) c.in_ok-target.target.n c.in_ok-source.source.n) in
+    let code : c.leads.result ≡ lead above.values.items (length sorts) c.in_ok-target.target.n c.in_ok-source.source.n =
+    c.leads.ensures ∙ (λ i. lead (c.values.ensures i) (c.len-sort_count.ensures i) c.in_ok-target.target.n c.in_ok-source.source.n) in
     all_pass p n shared sorts above f a pass c.in_ok-source.ensures.checks c.in_ok-target.ensures.checks (sym closes ∙ sym code ∙ c.if-leads.false)

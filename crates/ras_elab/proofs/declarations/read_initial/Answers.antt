@@ -1,5 +1,5 @@
-use Rattle.std.proofs.Common.{◌≡◌, refl, sym, ◌∙◌, subst}
-use Rattle.std.specs.Prelude.{Option, Some, None, Result, option_map}
+use Rattle.std.proofs.Common.{refl, sym, ◌∙◌, subst}
+use Rattle.std.specs.Prelude.{Option, Some, Result, option_map}
 use Rattle.ras_logic.specs.declared.ids.ConstId.{ConstId}
 use Rattle.ras_syntax.specs.declared.tree.Initial.{Initial}
 use Rattle.ras_names.specs.FileChecks.{initial_checks}
@@ -7,7 +7,7 @@ use Rattle.ras_names.proofs.Passing.{Passes, passed-not}
 use Rattle.ras_elab.specs.declared.fault.SpecError.{SpecError}
 use Rattle.ras_elab.specs.Answering.{Answers}
 use Rattle.ras_elab.specs.Placing.{placed_initial}
-use Rattle.ras_elab.proofs.Initials.{differs, initial_unknown, initial_wrong, initial_right}
+use Rattle.ras_elab.proofs.Initials.{differs, initial_wrong, initial_right}
 use Rattle.ras_elab.proofs.declarations.read_initial.Goals as goal
 
 pub returns-in-None-clause-checks : goal.returns-in-None-clause-checks

@@ -1,4 +1,4 @@
-use Rattle.std.proofs.Common.{◌≡◌, ◌++◌, List}
+use Rattle.std.proofs.Common.{◌++◌, List}
 use Rattle.ras_names.specs.Checks.{Check, for_each}
 use Rattle.ras_names.specs.FileChecks.{sort_checks, function_checks, constant_checks}
 use Rattle.ras_names.proofs.Passing.{pass_both}

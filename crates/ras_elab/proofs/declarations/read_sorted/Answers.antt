@@ -1,6 +1,4 @@
-use Rattle.std.proofs.Common.{◌≡◌, true, false, not, List, [], ◌∷◌, ◌++◌, refl}
-use Rattle.std.specs.Prelude.{position, Some}
-use Rattle.std.specs.Str.{bytes_eq}
+use Rattle.std.proofs.Common.{◌≡◌, true, false, [], ◌∷◌, ◌++◌}
 use Rattle.ras_logic.specs.declared.ids.SortId.{SortId}
 use Rattle.ras_names.specs.Checks.{declared_checks, used_check, is_among}
 use Rattle.ras_numbering.specs.Numbers.{number_in}

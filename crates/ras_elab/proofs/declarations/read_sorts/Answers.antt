@@ -1,4 +1,4 @@
-use Rattle.std.proofs.Common.{◌≡◌, ◌∷◌, ◌++◌, [], ℕ, ◌+◌, ◌<◌, ◌≤◌, false, List, length, get_or, map, take, refl, sym, ◌∙◌, ap, subst, arith}
+use Rattle.std.proofs.Common.{◌≡◌, ◌∷◌, ◌++◌, [], ℕ, ◌<◌, ◌≤◌, List, length, map, take, sym, ◌∙◌, ap, subst, arith}
 use Rattle.ras_syntax.specs.declared.tree.Sort.{Sort}
 use Rattle.ras_syntax.specs.Grammar.{Text}
 use Rattle.ras_names.specs.Placed.{Name}

@@ -1,4 +1,4 @@
-use Rattle.std.proofs.Common.{◌≡◌, ℕ, ◌≤◌, map, take}
+use Rattle.std.proofs.Common.{◌≡◌, ◌≤◌, map, take}
 use Rattle.ras_names.specs.Checks.{texts}
 use Rattle.ras_names.specs.FileChecks.{sort_checks}
 use Rattle.ras_elab.specs.Placing.{placed_sort, placed_file}

@@ -1,7 +1,6 @@
-use Rattle.std.proofs.Common.{◌≡◌, true, List, [], ◌∷◌, ◌++◌, refl, sym, ◌∙◌, subst, append_assoc}
+use Rattle.std.proofs.Common.{◌≡◌, true, List, [], ◌∷◌, ◌++◌, ◌∙◌, subst, append_assoc}
 use Rattle.std.specs.Prelude.{option_map}
 use Rattle.ras_syntax.specs.Grammar.{Text}
-use Rattle.ras_logic.specs.declared.ids.SortId.{SortId}
 use Rattle.ras_names.specs.Placed as placed
 use Rattle.ras_names.specs.Checks.{Check, is_among, texts, declared_checks, used_check}
 use Rattle.ras_names.specs.FileChecks.{initial_checks}

@@ -1,8 +1,7 @@
-use Rattle.std.proofs.Common.{◌≡◌, ◌∷◌, ◌++◌, [], ℕ, ◌+◌, ◌<◌, ◌≤◌, List, length, get_or, take, map, sym, ◌∙◌, ap, subst, arith}
+use Rattle.std.proofs.Common.{◌≡◌, ◌∷◌, ◌++◌, [], ◌<◌, ◌≤◌, List, length, get_or, take, sym, ◌∙◌, ap, subst, arith}
 use Rattle.std.proofs.lemmas.List.{map_more, take_all}
 use Rattle.ras_logic.specs.declared.ids.SortId.{SortId}
 use Rattle.ras_syntax.specs.Grammar.{Text}
-use Rattle.ras_names.specs.declared.names.RelNames.{RelNames}
 use Rattle.ras_elab.specs.declared.table.Table.{Table}
 use Rattle.ras_elab.specs.Agreeing.{sorts_of_columns}
 use Rattle.ras_elab.specs.Elaborating.{named_columns}

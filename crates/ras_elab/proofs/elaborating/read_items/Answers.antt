@@ -1,4 +1,4 @@
-use Rattle.std.proofs.Common.{◌≡◌, ◌++◌, List, sym, ◌∙◌, ap, subst, append_assoc}
+use Rattle.std.proofs.Common.{◌≡◌, ◌++◌, List, subst, append_assoc}
 use Rattle.ras_names.specs.Placed as placed
 use Rattle.ras_names.specs.Checks.{Check, for_each}
 use Rattle.ras_names.specs.FileChecks.{sort_checks, function_checks, constant_checks, variable_checks, relation_checks, step_checks, goal_checks, checks}

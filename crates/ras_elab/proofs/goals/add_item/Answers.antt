@@ -1,9 +1,6 @@
-use Rattle.std.proofs.Common.{◌≡◌, ◌++◌, ℕ, ◌≤◌, List, length, map, refl, sym, ◌∙◌, ap, subst, arith}
+use Rattle.std.proofs.Common.{◌++◌, ℕ, List, length, map, ◌∙◌, ap, subst}
 use Rattle.ras_logic.specs.declared.problem.Problem.{Problem}
 use Rattle.ras_logic.specs.declared.ids.RelId.{RelId}
-use Rattle.ras_names.specs.Checks.{Check}
-use Rattle.ras_names.specs.Unplaced.{goal_of}
-use Rattle.ras_names.specs.FileNames.{names_of_goal}
 use Rattle.ras_names.proofs.Passing.{Passes}
 use Rattle.ras_elab.specs.Answering.{Faults}
 use Rattle.ras_elab.specs.Goals.{cube_of, item_checks}

@@ -1,24 +1,20 @@
-use Rattle.std.proofs.Common.{◌≡◌, ◌++◌, [], ℕ, ◌≤◌, List, length, map, refl, sym, ◌∙◌, ap, subst, arith}
+use Rattle.std.proofs.Common.{◌≡◌, [], List, length, map, refl, sym, ◌∙◌, ap, subst, arith}
 use Rattle.std.specs.Prelude.{All}
 use Rattle.std.proofs.lemmas.List.{length-map}
 use Rattle.ras_logic.specs.declared.literal.Literal.{Literal}
-use Rattle.ras_logic.specs.declared.problem.Problem.{Problem}
-use Rattle.ras_logic.specs.declared.ids.RelId.{RelId}
 use Rattle.ras_logic.specs.Formulas.{HasNoParam}
 use Rattle.ras_syntax.specs.declared.tree.Row.{Row}
 use Rattle.ras_syntax.specs.Grammar as grammar
-use Rattle.ras_names.specs.Placed as placed
 use Rattle.ras_names.specs.Placed.{disjuncts}
-use Rattle.ras_names.specs.Unplaced.{row_of, conjunction_of, goal_of}
-use Rattle.ras_names.specs.FileNames.{names_of_goal}
-use Rattle.ras_names.specs.Checks.{Check, for_each, declared_texts}
-use Rattle.ras_names.specs.TermChecks.{Scope, guard_checks}
+use Rattle.ras_names.specs.Unplaced.{row_of, conjunction_of}
+use Rattle.ras_names.specs.Checks.{for_each, declared_texts}
+use Rattle.ras_names.specs.TermChecks.{guard_checks}
 use Rattle.ras_names.specs.StepChecks.{row_checks}
 use Rattle.ras_names.proofs.Among.{map-map}
 use Rattle.ras_names.proofs.Passing.{Passes, pass_both}
 use Rattle.ras_numbering.specs.Numbers.{declared_relation}
-use Rattle.ras_numbering.specs.TermValues.{conjunction_value, guard_value}
-use Rattle.ras_numbering.specs.FileValues.{goal_names, goal_values}
+use Rattle.ras_numbering.specs.TermValues.{conjunction_value}
+use Rattle.ras_numbering.specs.FileValues.{goal_names}
 use Rattle.ras_elab.specs.Answering.{Faults}
 use Rattle.ras_elab.specs.Bodies.{IsOfRelation}
 use Rattle.ras_elab.specs.Goals.{cube_of, item_checks}

@@ -1,4 +1,4 @@
-use Rattle.std.proofs.Common.{◌≡◌, ◌++◌, List, map, ◌∙◌, ap, subst}
+use Rattle.std.proofs.Common.{◌++◌, List, map, ◌∙◌, ap, subst}
 use Rattle.ras_syntax.specs.declared.tree.Update.{Update}
 use Rattle.ras_syntax.specs.declared.tree.Each.{Each}
 use Rattle.ras_names.specs.Checks.{Check, for_each}
@@ -12,7 +12,7 @@ use Rattle.ras_numbering.specs.FileValues.{update_value, cases_value}
 use Rattle.ras_elab.specs.Answering.{Faults}
 use Rattle.ras_elab.specs.Bodies.{body_checks}
 use Rattle.ras_elab.specs.Seeing.{step_texts}
-use Rattle.ras_elab.specs.Placing.{placed_guard, placed_update, placed_each, placed_step}
+use Rattle.ras_elab.specs.Placing.{placed_update, placed_each, placed_step}
 use Rattle.ras_elab.proofs.Following.{handed, faults_stay, faults_follow}
 use Rattle.ras_elab.proofs.steps.read_body.Goals as goal
 

@@ -1,11 +1,9 @@
 use Rattle.std.proofs.Common.{◌≡◌, ◌++◌, List, map, refl, sym, ◌∙◌, ap, subst}
-use Rattle.std.specs.Prelude.{All, None}
-use Rattle.ras_system.specs.declared.transition.Transition.{Transition}
+use Rattle.std.specs.Prelude.{All}
 use Rattle.ras_syntax.specs.declared.tree.Row.{Row}
 use Rattle.ras_syntax.specs.declared.tree.Param.{Param}
 use Rattle.ras_names.specs.Checks.{Check, for_each, declared_texts}
 use Rattle.ras_names.specs.StepChecks.{row_checks, param_checks, inside_checks}
-use Rattle.ras_names.specs.Placed as placed
 use Rattle.ras_names.proofs.Passing.{Passes}
 use Rattle.ras_numbering.specs.Numbers.{declared_sort, declared_relation}
 use Rattle.ras_numbering.specs.FileValues.{step_names}

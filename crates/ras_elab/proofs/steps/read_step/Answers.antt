@@ -1,8 +1,7 @@
-use Rattle.std.proofs.Common.{◌≡◌, ◌∷◌, ◌++◌, [], List, subst}
+use Rattle.std.proofs.Common.{◌∷◌, ◌++◌, [], List, subst}
 use Rattle.ras_syntax.specs.Grammar.{Text}
 use Rattle.ras_names.specs.Checks.{declared_checks}
 use Rattle.ras_names.specs.StepChecks.{inside_checks}
-use Rattle.ras_elab.specs.declared.declared.Declared.{Declared}
 use Rattle.ras_elab.specs.Answering.{Answers}
 use Rattle.ras_elab.specs.Placing.{placed_step}
 use Rattle.ras_elab.proofs.Following.{handed, faults_stay, answers_follow}

@@ -1,7 +1,10 @@
-use Rattle.std.proofs.Common.{length, ◌≡◌, ℕ, ◌<◌, ◌&&◌, false, get_or, nat_eq, take}
+use Rattle.std.proofs.Common.{length, ◌≡◌, ℕ, ◌<◌, false, get_or, take}
 use Rattle.std.specs.List.{list_any}
-use Rattle.ras_logic.specs.declared.function.FunDecl.{FunDecl}
+use Rattle.ras_logic.proofs.Leading.{leads_on}
 use Rattle.ras_logic.proofs.cycles.sources_of.Given as goal
 
 abbrev pub invariant-loop-f : goal.invariant-loop-f
-invariant-loop-f l = record { as_long : length l.sources ≡ 64; marks : (s : ℕ) → s < 64 → get_or l.sources s false ≡ list_any (λ (f : FunDecl). nat_eq f.source.n s && get_or l.marked f.target.n false) (take l.f-index l.functions) }
+invariant-loop-f g l = record {
+  as_long : length l.sources ≡ 64;
+  marks : (s : ℕ) → s < 64 → get_or l.sources s false ≡ list_any (leads_on g.A.Arrow.source g.A.Arrow.target l.functions l.marked s) (take l.f-index l.functions);
+}
