@@ -1,8 +1,8 @@
-ghost use Rattle.std.specs.Prelude.{IfOk};
+ghost use Rattle.std.specs.Prelude.{ℕ, IfOk};
 ghost use Rattle.ras_evidence.specs.declared.value.Evidence.TheVariants.{Unsafe};
 ghost use Rattle.ras_bundles.specs.declared.fault.BundleError.TheVariants as bundle;
-ghost use Rattle.ras_check.specs.Judging.{HasWholeTrees};
-ghost use Rattle.ras_cli.specs.Outcomes.{OfEvidenceFault, OfBundleError, IsVerdict, IsReplay, BundleComesTo};
+ghost use Rattle.ras_check.specs.Judging.{HasWholeTrees, IsFoundGood};
+ghost use Rattle.ras_cli.specs.Outcomes.{OfEvidenceFault, OfBundleError, Proves, IsVerdict, IsReplay, BundleComesTo};
 
 use crate::outcome::{Outcome, Reason};
 use ras_bundles::{BundleError, BundleKind, read_bundle};
@@ -34,6 +34,29 @@ fn of_system_fault<'a>(line: u64, kind: BundleKind) -> Outcome<'a>
     Outcome::NoBundle { line, kind }
 }
 
+/// An evidence that is found good proves what it says.
+fn proves(system: &System, evidence: &Evidence)
+    requires { IsFoundGood system.now evidence.now }
+    ensures { Proves evidence.now system.now }
+{
+    system.known();
+    match evidence {
+        Evidence::Safe { .. } => a_good_evidence_of_safety_suffices(),
+        Evidence::Unsafe { .. } => a_good_evidence_of_a_violation_suffices(),
+        Evidence::Unknown { .. } => {}
+    }
+}
+
+/// The answer to an evidence that is found good.
+fn valid<'a>(alloc: Global, system: &System, evidence: &Evidence) -> Result<Outcome<'a>, AllocError>
+    requires { IsFoundGood system.now evidence.now }
+    ensures { (line : ℕ) → IfOk result (IsVerdict system.now evidence.now line) }
+{
+    proves(system, evidence);
+    let text = Vec::from_slice(alloc, valid_line(evidence))?;
+    Ok(Outcome::Done(text))
+}
+
 /// The verdict on an evidence, whose first line has this number.
 pub fn judged<'a>(
     alloc: Global,
@@ -44,11 +67,8 @@ pub fn judged<'a>(
     requires { HasWholeTrees evidence.now }
     ensures { IfOk result (IsVerdict system.now evidence.now line) }
 {
-    a_good_evidence_of_safety_suffices();
-    a_good_evidence_of_a_violation_suffices();
-    system.known();
     match check(alloc, system, evidence)? {
-        Verdict::Valid => Ok(Outcome::Done(Vec::from_slice(alloc, valid_line(evidence))?)),
+        Verdict::Valid => valid(alloc, system, evidence),
         Verdict::Invalid(invalid) => Ok(Outcome::Invalid(invalid)),
         Verdict::Unbuilt => Ok(Outcome::NoEvidence {
             line,
