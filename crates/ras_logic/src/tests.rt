@@ -61,6 +61,17 @@ fn a_cube_its_copy_and_its_problem_are_made(rt: HostRuntime) -> Result<(), Fail>
 }
 
 #[test]
+fn a_literal_is_made_of_other_rows(rt: HostRuntime) -> Result<(), Fail> {
+    let alloc = rt.alloc();
+    let cube = cube(alloc)?.ok_or("a cube")?;
+    let literal = cube.literals().first().ok_or("a literal")?;
+    let other = literal.with_rows(alloc, &[2])?.opposite();
+    assert_eq!(rt; other.left().base, Base::Cell { row: 2, column: 1 });
+    assert!(rt; other.says_same());
+    Ok(())
+}
+
+#[test]
 fn a_shared_cube_gets_another_owner(rt: HostRuntime) -> Result<(), Fail> {
     let alloc = rt.alloc();
     let cube = cube(alloc)?.ok_or("a cube")?;
