@@ -219,7 +219,6 @@ impl Closure {
     }
 
     /// How many entries of its tables the closure has looked at in all assertions.
-    #[cfg(test)]
     pub fn steps(&self) -> u64 {
         self.steps.entries
     }

@@ -23,8 +23,6 @@ mod shape_fault;
 mod shared;
 mod sorting;
 mod term;
-#[cfg(test)]
-mod tests;
 mod tree;
 mod values;
 

@@ -23,8 +23,6 @@ mod pruning;
 mod search;
 mod step;
 mod task;
-#[cfg(test)]
-mod tests;
 mod verdict;
 
 pub use deciding::decide;

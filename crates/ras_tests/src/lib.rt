@@ -3,9 +3,17 @@
 #![tactic(auto)]
 
 #[cfg(test)]
+mod closing;
+#[cfg(test)]
 mod commands;
 #[cfg(test)]
+mod formulas;
+#[cfg(test)]
 mod journals;
+#[cfg(test)]
+mod refuting;
+#[cfg(test)]
+mod solving;
 #[cfg(test)]
 mod systems;
 #[cfg(test)]

@@ -1,4 +1,4 @@
-use crate::{Closure, Model, param_elements};
+use ras_closure::{Closure, Model, param_elements};
 use ras_logic::{
     Base, FunDecl, FunId, List, Literal, Problem, Rows, Schema, Shape, SortId, Term, fits,
 };

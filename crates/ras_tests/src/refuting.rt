@@ -1,8 +1,8 @@
-use crate::closes;
 use ras_logic::{
     Base, Cube, List, Literal, Node, Problem, Rows, Schema, Shape, Shared, SortId, Term, Tree,
     VarId,
 };
+use ras_refute::closes;
 use std::alloc::{AllocError, Global};
 use std::test::Fail;
 

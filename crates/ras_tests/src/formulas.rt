@@ -1,4 +1,4 @@
-use crate::{
+use ras_logic::{
     Base, Cube, FunDecl, FunId, List, Literal, Plain, RawDb, RelId, Rows, Schema, Shape, Shared,
     SortId, Term,
 };

@@ -1,11 +1,11 @@
 ghost use Rattle.std.specs.Prelude.{IsTrue, All};
 ghost use Rattle.ras_logic.specs.Formulas.{Fits};
 
-use crate::{Decision, Instance, are_instances, decide};
 use ras_logic::{
     Base, ConstId, Cube, List, Literal, Node, Problem, Rows, Schema, Shape, Shared, SortId, Term,
     Tree, VarId, cube_fits, fits,
 };
+use ras_sat::{Decision, Instance, are_instances, decide};
 use std::alloc::Global;
 use std::test::Fail;
 
