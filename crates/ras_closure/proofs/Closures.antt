@@ -5,8 +5,7 @@ use Rattle.std.proofs.lemmas.Option.{slice_get_within}
 use Rattle.ras_logic.specs.declared.term.Term.{Term}
 use Rattle.ras_logic.specs.declared.literal.Literal.{Literal}
 use Rattle.ras_logic.specs.declared.literal.Literal.TheVariants.{Equal}
-use Rattle.ras_logic.specs.Schemas.{SchemaParts}
-use Rattle.ras_logic.specs.Clashes.{Together, reflexive, symmetric, transitive, stated, same_images, image_of_undef, only_undef}
+use Rattle.ras_logic.specs.Clashes.{Together, reflexive, stated}
 use Rattle.ras_closure.specs.declared.clash.Clash.{Clash}
 use Rattle.ras_closure.specs.declared.term_no.TermNo.{TermNo}
 use Rattle.ras_closure.specs.Numbered.{IsAt, TableParts, IsTable}

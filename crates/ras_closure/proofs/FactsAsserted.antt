@@ -1,20 +1,13 @@
 -- Facts that are asserted one after the other, and what their clash means.
-use Rattle.std.proofs.Common.{◌≡◌, ℕ, ◌+◌, ◌<◌, ◌≤◌, true, false, List, length, get_or, refl, sym, ◌∙◌, subst, arith, ◌⊎◌, inl, inr, ⊎_elim}
+use Rattle.std.proofs.Common.{◌≡◌, ℕ, ◌+◌, ◌<◌, ◌≤◌, length, refl, sym, ◌∙◌, subst, arith, ◌⊎◌, inl, inr, ⊎_elim}
 use Rattle.std.specs.Prelude.{slice_get, Some, None, Contains, ◌↔◌}
-use Rattle.std.proofs.lemmas.List.Elements.{Contains-get_or}
-use Rattle.std.proofs.lemmas.Option.{slice_get_within, slice_get-get_or, get_or_from_slice_get, same_Some}
+use Rattle.std.proofs.lemmas.Option.{same_Some}
 use Rattle.ras_logic.specs.declared.literal.Literal.{Literal}
 use Rattle.ras_logic.specs.declared.literal.Literal.TheVariants.{Equal}
 use Rattle.ras_logic.specs.declared.problem.Problem.{Problem}
-use Rattle.ras_logic.specs.declared.term.Term.{Term}
-use Rattle.ras_logic.specs.declared.raw_db.RawDb.{RawDb}
-use Rattle.ras_logic.specs.declared.values.Values.{Values}
-use Rattle.ras_logic.specs.Shapes.{ShapeParts, IsShape}
-use Rattle.ras_logic.specs.Schemas.{SchemaParts}
-use Rattle.ras_logic.specs.Databases.{IsDatabase}
+use Rattle.ras_logic.specs.Shapes.{ShapeParts}
 use Rattle.ras_logic.specs.Formulas.{Fits, LiteralFits}
-use Rattle.ras_logic.specs.Truth.{AreValues, Satisfies}
-use Rattle.ras_logic.specs.Clashes.{Together, reflexive, symmetric, transitive, stated, same_images, image_of_undef, only_undef, Clash, stated_apart, two_constants, constant_undef, FactsClash}
+use Rattle.ras_logic.specs.Clashes.{Clash, FactsClash}
 use Rattle.ras_logic.proofs.Elements.{from_known, contains-at, at-contains}
 use Rattle.ras_logic.proofs.MoreFacts.{clash-more}
 use Rattle.ras_closure.specs.Closures.{ClosureParts, IsFactOf, FactsClashIn}

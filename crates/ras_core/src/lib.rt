@@ -28,4 +28,3 @@ pub use law::{
 pub use origin::Origin;
 pub use sought::Sought;
 pub use work::Work;
-

@@ -20,4 +20,3 @@ mod updates;
 
 pub use elaborating::{Spec, elaborate};
 pub use fault::SpecError;
-

@@ -15,4 +15,3 @@ pub use fixed::Fixed;
 pub use lexing::tokens;
 pub use text::Text;
 pub use token::{Token, Word};
-

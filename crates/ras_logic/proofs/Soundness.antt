@@ -1,11 +1,10 @@
 -- Terms that are together have one value wherever the facts hold, and facts that clash hold in no database.
 use Rattle.std.proofs.Common.{◌≡◌, ℕ, true, false, List, [], ◌∷◌, nat_eq, refl, sym, ◌∙◌, ap, arith}
-use Rattle.std.specs.Prelude.{slice_get, Some, All, IsTrue}
+use Rattle.std.specs.Prelude.{All, IsTrue}
 use Rattle.std.proofs.lemmas.Bool.{eqb-true, eq-eqb, not-true}
 use Rattle.ras_logic.specs.declared.ids.SortId.{SortId}
 use Rattle.ras_logic.specs.declared.ids.FunId.{FunId}
 use Rattle.ras_logic.specs.declared.ids.RelId.{RelId}
-use Rattle.ras_logic.specs.declared.function.FunDecl.{FunDecl}
 use Rattle.ras_logic.specs.declared.raw_db.RawDb.{RawDb}
 use Rattle.ras_logic.specs.declared.values.Values.{Values}
 use Rattle.ras_logic.specs.declared.term.Term.{Term}
@@ -16,10 +15,10 @@ use Rattle.ras_logic.specs.Schemas.{IsSchema}
 use Rattle.ras_logic.specs.Databases.{IsDatabase, image}
 use Rattle.ras_logic.specs.Truth.{AreValues, value_of_base, value, holds}
 use Rattle.ras_logic.specs.Formulas.{LiteralFits}
-use Rattle.ras_logic.specs.Terms.{undef_term, image_term}
+use Rattle.ras_logic.specs.Terms.{image_term}
 use Rattle.ras_logic.proofs.TermSorts.{image_along-append, image-total, value-element, constant-sort}
 use Rattle.ras_logic.specs.Clashes.{Together, Clash, reflexive, symmetric, transitive, stated, same_images, image_of_undef, only_undef, stated_apart, two_constants, constant_undef}
-use Rattle.ras_logic.proofs.SameSorts.{SameSort, together-sorted, image-source}
+use Rattle.ras_logic.proofs.SameSorts.{together-sorted, image-source}
 
 -- the value of the image of a term
 pub value-image : (d : RawDb) (v : Values) (t : Term) (f : FunId) → value d v (image_term t f) ≡ image d f.n (value d v t)

@@ -1,18 +1,18 @@
 -- Where no function of a file closes a cycle, those that they denote are acyclic.
-use Rattle.std.proofs.Common.{◌≡◌, ℕ, zero, suc, ◌+◌, ◌<◌, ◌≤◌, Bool, true, false, List, [], ◌∷◌, ◌++◌, length, take, map, get_or, refl, sym, ◌∙◌, ap, subst, arith, ⊎_elim, inl, inr}
-use Rattle.std.specs.Prelude.{◌⊎◌, ◌||◌, ◌&&◌, Option, Some, None, slice_get, All, Contains}
+use Rattle.std.proofs.Common.{◌≡◌, ℕ, zero, suc, ◌+◌, ◌<◌, ◌≤◌, Bool, true, false, List, [], ◌∷◌, length, take, map, get_or, sym, subst, arith}
+use Rattle.std.specs.Prelude.{◌&&◌, Option, Some, None, slice_get, All, Contains}
 use Rattle.std.specs.List.{list_any}
 use Rattle.std.specs.Str.{bytes_eq}
-use Rattle.std.proofs.lemmas.Bool.{cases_lt, and_from}
+use Rattle.std.proofs.lemmas.Bool.{and_from}
 use Rattle.std.proofs.lemmas.List.{take_all}
 use Rattle.std.proofs.lemmas.Option.{slice_get_within, slice_get-get_or, get_or_from_slice_get}
-use Rattle.std.proofs.lemmas.List.Elements.{All-head, All-tail, All-cons}
+use Rattle.std.proofs.lemmas.List.Elements.{All-head, All-cons}
 use Rattle.ras_logic.specs.declared.ids.SortId.{SortId}
 use Rattle.ras_logic.specs.declared.function.FunDecl.{FunDecl}
-use Rattle.ras_logic.specs.Schemas.{HasSorts, IsChain, IsAcyclic}
-use Rattle.ras_logic.specs.SchemaFaults.{end_of, HasCycle}
+use Rattle.ras_logic.specs.Schemas.{HasSorts, IsAcyclic}
+use Rattle.ras_logic.specs.SchemaFaults.{HasCycle}
 use Rattle.ras_logic.proofs.Walks.{Walk, walked, acyclic_from, way_back}
-use Rattle.ras_logic.proofs.ByPlace.{all-from, any_at, at_contains, at_take, contains-at, map_from, no_true, one_value, or_first, or_second, take_at}
+use Rattle.ras_logic.proofs.ByPlace.{all-from, any_at, at_take, contains-at, map_from, no_true, one_value, or_first, or_second, take_at}
 use Rattle.ras_syntax.specs.Grammar.{Text}
 use Rattle.ras_names.specs.Lists.{HasNumber, OneByOne}
 use Rattle.ras_names.specs.FileNames.{names_of}

@@ -1,7 +1,6 @@
 -- Classes that were put together only where a fact or a rule asks for it.
 use Rattle.std.proofs.Common.{◌≡◌, ℕ, ◌<◌, true, List, length, sym, subst, ⊎_elim}
-use Rattle.std.specs.Prelude.{slice_get, Some, Contains, All}
-use Rattle.std.proofs.lemmas.Option.{slice_get_within, get_or_from_slice_get}
+use Rattle.std.specs.Prelude.{slice_get, Some, Contains}
 use Rattle.ras_logic.proofs.Elements.{from_known, contains-at}
 use Rattle.ras_logic.specs.declared.ids.SortId.{SortId}
 use Rattle.ras_logic.specs.declared.term.Base.TheVariants.{Undef}

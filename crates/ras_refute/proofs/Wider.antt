@@ -1,12 +1,12 @@
 -- Whether facts clash depends only on which facts there are.
-use Rattle.std.proofs.Common.{◌≡◌, ℕ, ◌-◌, ◌<◌, true, false, List, [], ◌∷◌, length, get_or, reverse, ◌∙◌, ap, subst, arith, ◌⊎◌, inl, inr, ⊎_elim}
+use Rattle.std.proofs.Common.{◌≡◌, ℕ, ◌-◌, ◌<◌, List, [], ◌∷◌, length, get_or, reverse, ◌∙◌, ap, subst, arith, ◌⊎◌, inl, inr, ⊎_elim}
 use Rattle.std.specs.Prelude.{Contains}
 use Rattle.std.proofs.lemmas.List.{get_or-reverse, length-reverse, reverse-reverse}
 use Rattle.ras_logic.specs.declared.term.Term.{Term}
 use Rattle.ras_logic.specs.declared.literal.Literal.{Literal}
 use Rattle.ras_logic.specs.declared.literal.Literal.TheVariants.{Equal}
 use Rattle.ras_logic.specs.Schemas.{SchemaParts}
-use Rattle.ras_logic.specs.Clashes.{sides, IsTerm, of_literals, a_constant, an_undef, Together, reflexive, symmetric, transitive, stated, same_images, image_of_undef, only_undef, stated_apart, two_constants, constant_undef, FactsClash}
+use Rattle.ras_logic.specs.Clashes.{sides, IsTerm, of_literals, a_constant, an_undef, FactsClash}
 use Rattle.ras_logic.specs.Literals.{left_of, right_of}
 use Rattle.ras_logic.proofs.Elements.{contains_cases, contains-here, contains-later}
 use Rattle.ras_logic.proofs.MoreFacts.{clash-more}

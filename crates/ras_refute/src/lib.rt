@@ -24,4 +24,3 @@ pub use closing::closes;
 pub use law::{a_fault_is_no_closing, the_first_fault_is_one};
 pub use ras_logic::{Node, Tree};
 pub use tree_fault::{CloseError, TreeFault, TreeKind};
-

@@ -1,22 +1,16 @@
 -- What the models of the closure of facts mean.
-use Rattle.std.proofs.Common.{◌≡◌, ℕ, ◌+◌, ◌<◌, ◌≤◌, true, false, List, length, get_or, sym, ◌∙◌, subst, arith, ◌⊎◌, inl, inr, ⊎_elim}
-use Rattle.std.specs.Prelude.{slice_get, Some, None, Contains, ◌↔◌}
+use Rattle.std.proofs.Common.{get_or, subst}
 use Rattle.std.proofs.lemmas.List.Elements.{Contains-get_or}
-use Rattle.std.proofs.lemmas.Option.{slice_get_within, slice_get-get_or, get_or_from_slice_get, same_Some}
-use Rattle.ras_logic.specs.declared.literal.Literal.{Literal}
-use Rattle.ras_logic.specs.declared.literal.Literal.TheVariants.{Equal}
 use Rattle.ras_logic.specs.declared.problem.Problem.{Problem}
-use Rattle.ras_logic.specs.declared.term.Term.{Term}
 use Rattle.ras_logic.specs.declared.raw_db.RawDb.{RawDb}
 use Rattle.ras_logic.specs.declared.values.Values.{Values}
 use Rattle.ras_logic.specs.Shapes.{ShapeParts, IsShape}
-use Rattle.ras_logic.specs.Schemas.{SchemaParts}
 use Rattle.ras_logic.specs.Databases.{IsDatabase}
-use Rattle.ras_logic.specs.Formulas.{Fits, LiteralFits}
+use Rattle.ras_logic.specs.Formulas.{Fits}
 use Rattle.ras_logic.specs.Truth.{AreValues, Satisfies}
-use Rattle.ras_logic.specs.Clashes.{Together, reflexive, symmetric, transitive, stated, same_images, image_of_undef, only_undef, Clash, stated_apart, two_constants, constant_undef, FactsClash}
+use Rattle.ras_logic.specs.Clashes.{FactsClash}
 use Rattle.ras_logic.proofs.Clashes.{clash-none}
-use Rattle.ras_closure.specs.Closures.{ClosureParts, IsFactOf, FactsClashIn}
+use Rattle.ras_closure.specs.Closures.{ClosureParts}
 use Rattle.ras_closure.specs.SmallModels.{IsModelOf}
 use Rattle.ras_sat.specs.declared.task.Task.{Task}
 use Rattle.ras_sat.specs.Tasks.{IsTask}

@@ -1,20 +1,13 @@
 -- Opposites of the literals of an instance fit the premise.
-use Rattle.std.proofs.Common.{◌≡◌, ℕ, zero, suc, ◌<◌, ◌≤◌, ◌^◌, List, [], ◌∷◌, ◌++◌, length, get_or, sym, ◌∙◌, subst, arith, ◌⊎◌, inl, inr, length-append}
-use Rattle.std.specs.Prelude.{slice_get, Some, option_and_then, All}
-use Rattle.std.specs.List.{AllZip}
+use Rattle.std.proofs.Common.{◌≡◌, ℕ, ◌<◌, ◌≤◌, List, [], ◌∷◌, ◌++◌, length, get_or, sym, ◌∙◌, subst, arith, ◌⊎◌, inl, inr, length-append}
+use Rattle.std.specs.Prelude.{slice_get, Some, All}
 use Rattle.std.proofs.lemmas.List.{get_or_append_left, get_or_push, length-map}
-use Rattle.std.proofs.lemmas.List.Elements.{All-nil, All-cons, All-map, All-weaker}
-use Rattle.std.proofs.lemmas.Option.{slice_get_within, same_Some}
+use Rattle.std.proofs.lemmas.List.Elements.{All-map, All-weaker}
+use Rattle.std.proofs.lemmas.Option.{same_Some}
 use Rattle.ras_logic.specs.declared.ids.SortId.{SortId}
-use Rattle.ras_logic.specs.declared.ids.RelId.{RelId}
-use Rattle.ras_logic.specs.declared.term.Base.{Base}
-use Rattle.ras_logic.specs.declared.term.Base.TheVariants.{Var, Cell, Constant, Undef, Param}
-use Rattle.ras_logic.specs.declared.term.Term.{Term}
 use Rattle.ras_logic.specs.declared.literal.Literal.{Literal}
-use Rattle.ras_logic.specs.declared.literal.Literal.TheVariants.{Equal}
 use Rattle.ras_logic.specs.declared.problem.Problem.{Problem}
 use Rattle.ras_logic.specs.Shapes.{ShapeParts}
-use Rattle.ras_logic.specs.Terms.{sort_of_base, sort_along, sort_of, replace_term}
 use Rattle.ras_logic.specs.Formulas.{LiteralFits, Fits, IsCube, negated, replace}
 use Rattle.ras_logic.specs.Refutations.{AreRowsOf, chosen_row}
 use Rattle.ras_logic.proofs.Elements.{from_known}

@@ -30,4 +30,3 @@ pub use run::Run;
 pub use step_fault::StepFault;
 pub use stepping::step;
 pub use witness::Witness;
-

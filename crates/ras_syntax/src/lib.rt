@@ -18,4 +18,3 @@ pub use tree::{
     Constant, Dotted, Each, File, Function, Goal, Guard, Initial, Literal, Name, OrConjunction,
     Param, Relation, Row, Sort, Step, Term, Totality, Update, Variable,
 };
-

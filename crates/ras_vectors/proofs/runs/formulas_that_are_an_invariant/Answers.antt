@@ -21,9 +21,11 @@ never_at_first d s i m =
 no_step : (d : RawDb) (s : State) (c : Choice) (next : State) → IsStep still d s c next → ⊥
 no_step d s c next (t, e, rest) = cc
 
-pub returns-clause-still : goal.returns-clause-still
-returns-clause-still c = record {
-  initial = λ d s is i m. never_at_first d s i m;
-  goals = λ d s is state m. m;
-  steps = λ d s c next is state step m. absurd (no_step d s c next step);
+pub returns : goal.returns
+returns c = record {
+  still = record {
+    initial = λ d s is i m. never_at_first d s i m;
+    goals = λ d s is state m. m;
+    steps = λ d s c next is state step m. absurd (no_step d s c next step);
+  };
 }

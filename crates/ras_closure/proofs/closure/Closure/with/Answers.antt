@@ -1,4 +1,4 @@
-use Rattle.std.proofs.Common.{◌∙◌, length, refl}
+use Rattle.std.proofs.Common.{length, refl}
 use Rattle.ras_closure.proofs.Closures.{start-partial, start-verdict, start-closure, start-no_clash, no_fact}
 use Rattle.ras_closure.proofs.closure.Closure.with.Goals as goal
 

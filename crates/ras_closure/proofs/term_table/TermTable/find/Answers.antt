@@ -1,4 +1,4 @@
-use Rattle.std.proofs.Common.{◌≡◌, List, length, get_or, ap, arith}
+use Rattle.std.proofs.Common.{List, length, get_or, ap, arith}
 use Rattle.ras_logic.specs.declared.ids.FunId.{FunId}
 use Rattle.ras_closure.proofs.Finding.{base-missing, image-missing, image-found, whole-found}
 use Rattle.ras_closure.proofs.term_table.TermTable.find.Goals as goal

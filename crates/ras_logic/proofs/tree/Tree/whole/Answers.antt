@@ -1,4 +1,4 @@
-use Rattle.std.proofs.Common.{◌≡◌, ◌+◌, ◌-◌, ◌*◌, ◌<◌, drop, arith, refl, ◌∙◌}
+use Rattle.std.proofs.Common.{◌+◌, ◌-◌, ◌<◌, drop, arith, refl, ◌∙◌}
 use Rattle.ras_logic.proofs.Preorder.{node-first, trees-next}
 use Rattle.ras_logic.proofs.tree.Tree.whole.Goals as goal
 

@@ -1,5 +1,3 @@
-use Rattle.std.proofs.Common.{◌≡◌, ℕ, length, sym, subst}
-use Rattle.ras_refute.specs.Tables.{AddsUndefs, AddsConstants}
 use Rattle.ras_refute.proofs.Tables.{fixed-made, made-table}
 use Rattle.ras_refute.proofs.table.Table.new.Goals as goal
 
