@@ -1,5 +1,6 @@
 ghost use Rattle.std.specs.Prelude.{ℕ, IfOk};
-ghost use Rattle.ras_evidence.specs.declared.value.Evidence.TheVariants.{Unsafe};
+ghost use Rattle.ras_system.specs.Runs.{IsSafe};
+ghost use Rattle.ras_evidence.specs.declared.value.Evidence.TheVariants.{Safe, Unsafe};
 ghost use Rattle.ras_bundles.specs.declared.fault.BundleError.TheVariants as bundle;
 ghost use Rattle.ras_check.specs.Judging.{HasWholeTrees, IsFoundGood};
 ghost use Rattle.ras_cli.specs.Outcomes.{OfEvidenceFault, OfBundleError, Proves, IsVerdict, IsReplay, BundleComesTo};
@@ -11,7 +12,7 @@ use ras_check::{
     check, valid_line,
 };
 use ras_evidence::{Evidence, EvidenceFault};
-use ras_logic::RawDb;
+use ras_logic::{Cube, List, RawDb, Shared, Tree};
 use ras_steps::Run;
 use ras_system::System;
 use ras_violation::{ViolationError, replay_text};
@@ -34,15 +35,31 @@ fn of_system_fault<'a>(line: u64, kind: BundleKind) -> Outcome<'a>
     Outcome::NoBundle { line, kind }
 }
 
+/// A certificate that is found good proves that the system is safe.
+fn proves_safety(system: &System, formulas: &List<Shared<Cube>>, trees: &List<Tree>)
+    requires { IsFoundGood system.now (Safe formulas.now trees.now) }
+    ensures { IsSafe system.now }
+{
+    system.known();
+    a_good_evidence_of_safety_suffices();
+}
+
+/// A run that is found good proves that it is not.
+fn proves_violation(system: &System, db: &RawDb, run: &Run)
+    requires { IsFoundGood system.now (Unsafe db.now run.now) }
+    ensures { ¬ IsSafe system.now }
+{
+    a_good_evidence_of_a_violation_suffices();
+}
+
 /// An evidence that is found good proves what it says.
 fn proves(system: &System, evidence: &Evidence)
     requires { IsFoundGood system.now evidence.now }
     ensures { Proves evidence.now system.now }
 {
-    system.known();
     match evidence {
-        Evidence::Safe { .. } => a_good_evidence_of_safety_suffices(),
-        Evidence::Unsafe { .. } => a_good_evidence_of_a_violation_suffices(),
+        Evidence::Safe { formulas, trees } => proves_safety(system, formulas, trees),
+        Evidence::Unsafe { db, run } => proves_violation(system, db, run),
         Evidence::Unknown { .. } => {}
     }
 }

@@ -1,11 +1,9 @@
-//! Tests of the calls of other crates: the answers of the commands that were worked out by hand, and calls that no command makes
-//! yet, each with enough memory. They stand apart, since a crate with tests is proved twice.
+//! Tests of calls that no command makes yet, each with enough memory. They stand apart from the crates of these calls, since a
+//! crate with tests is proved twice.
 #![tactic(auto)]
 
 #[cfg(test)]
 mod closing;
-#[cfg(test)]
-mod commands;
 #[cfg(test)]
 mod formulas;
 #[cfg(test)]
