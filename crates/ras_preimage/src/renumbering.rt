@@ -11,8 +11,8 @@ pub fn renumbered_base(updated: u16, number: u16, base: Base) -> Base
     ensures { base_term result ≡ renumbered_row updated number base }
 {
     match base {
-        Base::Cell { row, column } if row == updated => Base::Cell {
-            row: number,
+        Base::Cell { row, column } => Base::Cell {
+            row: if row == updated { number } else { row },
             column,
         },
         _ => base,
