@@ -1,6 +1,8 @@
 use ras_logic::{
-    Base, Cube, FunDecl, List, Literal, Plain, RelId, Rows, Schema, Shape, SortId, Term, VarId,
+    Base, Cube, FunDecl, List, Literal, Plain, Problem, RelId, Rows, Schema, Shape, SortId, Term,
+    VarId,
 };
+use ras_preimage::pre;
 use ras_system::{Assign, Bulk, System, Target, Transition, Update};
 use std::alloc::{AllocError, Global};
 use std::test::Fail;
@@ -12,18 +14,41 @@ fn undef(alloc: Global) -> Term {
     }
 }
 
+// That the only cell of a row is undef.
+fn is_undef(alloc: Global, row: u16) -> Literal {
+    let left = Term {
+        base: Base::Cell { row, column: 0 },
+        path: List::new(alloc),
+    };
+    Literal::Equal {
+        left,
+        right: undef(alloc),
+        same: true,
+    }
+}
+
+fn undef_row(alloc: Global) -> Option<Cube> {
+    let mut rows = Rows::new(alloc);
+    rows.push(RelId { n: 0 }).ok()?;
+    let mut literals = List::new(alloc);
+    literals.push(is_undef(alloc, 0)).ok()?;
+    Cube::new(rows, literals).ok()
+}
+
 fn bulk(alloc: Global) -> Result<Bulk, AllocError> {
     let mut assigns = List::new(alloc);
     let term = undef(alloc);
     assigns.push(Assign { column: 0, term })?;
+    let mut condition = List::new(alloc);
+    condition.push(is_undef(alloc, 1))?;
     Ok(Bulk {
         relation: RelId { n: 0 },
-        condition: List::new(alloc),
+        condition,
         assigns,
     })
 }
 
-/// A step with something of each kind: all rows and the variable become undef.
+/// A step with something of each kind: the variable becomes undef, and rows that are undef become so again.
 fn transition(alloc: Global) -> Result<Transition, AllocError> {
     let mut rows = Rows::new(alloc);
     rows.push(RelId { n: 0 })?;
@@ -73,5 +98,26 @@ fn a_copy_of_a_system_is_the_same(rt: HostRuntime) -> Result<(), Fail> {
     let system = system(rt.alloc())?;
     let copy = system.copy(rt.alloc())?;
     assert!(rt; copy.equal(&system));
+    Ok(())
+}
+
+fn preimage(alloc: Global) -> Result<Option<List<Problem>>, Fail> {
+    let system = system(alloc)?;
+    if system.transitions().is_empty() {
+        return Ok(None);
+    }
+    let Some(cube) = undef_row(alloc) else {
+        return Ok(None);
+    };
+    Ok(Some(pre(alloc, &system, 0, &cube)?))
+}
+
+// The row was the named one, or another that took the case, or another that did not.
+#[test]
+fn a_preimage_has_a_problem_for_each_choice(rt: HostRuntime) -> Result<(), Fail> {
+    let problems = preimage(rt.alloc())?.ok_or("a transition and a cube")?;
+    assert_eq!(rt; problems.len(), 3);
+    let last = problems.as_slice().last().ok_or("a problem")?;
+    assert_eq!(rt; last.literals.len(), 2);
     Ok(())
 }

@@ -1,0 +1,13 @@
+pub mod Lists
+pub mod ChosenRows
+pub mod Replaced
+pub mod Cases
+pub mod Combinations
+pub mod Links
+pub mod Assigned
+pub mod After
+pub mod Exact
+pub mod Fitting
+pub mod Refuted
+pub mod GoodEvidence
+pub mod Numbered
