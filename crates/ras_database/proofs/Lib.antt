@@ -1,4 +1,3 @@
-pub mod Paths
 pub mod FirstPlaces
 pub mod Passing
 pub mod Judging

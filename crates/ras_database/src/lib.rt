@@ -14,4 +14,4 @@ pub use database::Database;
 pub use db_fault::{DbFault, Part};
 pub use extending::extends;
 pub use law::{a_fault_is_no_database, no_database_has_a_fault, the_first_fault_is_one};
-pub use truth::{constant_value, holds, image_along, value};
+pub use truth::{holds, value};

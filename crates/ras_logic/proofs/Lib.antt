@@ -6,6 +6,7 @@ pub mod Columns
 pub mod Elements
 pub mod Leading
 pub mod MoreFacts
+pub mod Paths
 pub mod Preorder
 pub mod Rounds
 pub mod SameSorts

@@ -24,6 +24,7 @@ mod shared;
 mod sorting;
 mod term;
 mod tree;
+mod truth;
 mod values;
 
 pub use cube::Cube;
@@ -46,4 +47,5 @@ pub use shared::Shared;
 pub use sorting::{cube_fits, fits, literal_fits, sort_of, sort_of_base};
 pub use term::{Base, Term};
 pub use tree::{Node, Tree};
+pub use truth::{Valued, constant_value, holds, number_at, value};
 pub use values::Values;

@@ -1,4 +1,3 @@
-pub mod Paths
 pub mod Wider
 pub mod Joining
 pub mod FactModels

@@ -2,11 +2,10 @@ ghost use Rattle.std.specs.Prelude.{◌≡◌, ◌<◌, ◌≤◌, ◌⊎◌, �
 ghost use Rattle.ras_sat.specs.Tasks.{opposites_at};
 ghost use Rattle.ras_sat.specs.Choices.{HoldsSome, HoldsNone, IsConsidered};
 
-use crate::evaluation::holds;
 use crate::known::Known;
 use crate::task::Task;
 use ras_closure::Model;
-use ras_logic::Literal;
+use ras_logic::{Literal, holds};
 
 /// An instance to split on.
 #[derive(Clone, Copy, Debug)]

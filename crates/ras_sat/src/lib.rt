@@ -10,7 +10,6 @@
 mod choice;
 mod deciding;
 mod decision;
-mod evaluation;
 mod facts;
 mod instance;
 mod instances;

@@ -6,9 +6,9 @@ ghost use Rattle.ras_logic.specs.Shapes.{IsRelation};
 ghost use Rattle.ras_logic.specs.declared.ids.RelId.{RelId};
 ghost use Rattle.ras_system.specs.States.{IsState, IsInitial, initial_value as the_initial_value, rows_of as the_rows};
 
-use crate::sight::{number_at, rows_of};
-use ras_database::{Database, constant_value};
-use ras_logic::{ConstId, List, RelId, Shape, SortId, VarId};
+use crate::sight::rows_of;
+use ras_database::Database;
+use ras_logic::{ConstId, List, RelId, Shape, SortId, VarId, constant_value, number_at};
 use ras_system::{State, System};
 
 /// Whether numbers are elements of these sorts, one for each.
@@ -68,7 +68,7 @@ fn initial_value(db: &Database, constant: Option<ConstId>) -> u32
     ensures { result ≡ the_initial_value db.now constant }
 {
     match constant {
-        Some(c) => constant_value(db, c),
+        Some(c) => constant_value(db.raw(), c),
         None => 0,
     }
 }

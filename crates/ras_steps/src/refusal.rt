@@ -2,10 +2,11 @@
 ghost use Rattle.std.specs.Prelude.{◌≡◌, ◌↔◌, ℕ, ◌<◌, length, IsTrue, IfNone, IfSome};
 ghost use Rattle.ras_steps.specs.StepFaults.{HasCounts, IsRowInside, IsValueInside, Repeats, AreApartBefore, IsFirstNot, GuardHolds, HasStep, IsFaultOf};
 
-use crate::sight::{Sight, number_at, rows_of};
+use crate::sight::{Sight, rows_of};
 use crate::step_fault::StepFault;
 use crate::truth::guard_holds;
 use ras_database::Database;
+use ras_logic::number_at;
 use ras_system::{Choice, State, Transition};
 
 /// Two row parameters with one row of one relation.

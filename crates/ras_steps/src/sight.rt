@@ -1,12 +1,12 @@
 //! What terms are read in: a state, rows that are named in it, data parameters, and in a bulk case the updated row.
 ghost use Rattle.std.specs.Prelude.{◌≡◌, ◌≤◌, length, [], None, Some, get_or};
-ghost use Rattle.ras_logic.specs.Truth.{value_of_base as the_base, value as the_value, holds as the_truth};
+ghost use Rattle.ras_logic.specs.Truth.{value as the_value, holds as the_truth};
 ghost use Rattle.ras_steps.specs.Sights.{seen};
 ghost use Rattle.ras_system.specs.States.{rows_of as the_rows, values_at};
 ghost use Rattle.ras_system.specs.Steps.{with_row};
 
-use ras_database::{Database, constant_value, image_along};
-use ras_logic::{Base, List, Literal, RelId, Term};
+use ras_database::Database;
+use ras_logic::{List, Literal, RelId, Term, Valued, number_at};
 use ras_system::State;
 
 /// The values of the variables of a state, of named rows and of data parameters, read where they stand: nothing is copied.
@@ -17,13 +17,6 @@ pub struct Sight<'a> {
     pub chosen: &'a [u32],
     pub params: &'a [u32],
     pub row: Option<&'a [u32]>,
-}
-
-/// What a list holds at a place, and 0 past its end.
-pub fn number_at(numbers: &[u32], place: usize) -> u32
-    ensures { result ≡ get_or numbers.now place 0 }
-{
-    numbers.get(place).copied().unwrap_or(0)
 }
 
 /// The rows of a relation, none where there is no such relation.
@@ -67,25 +60,16 @@ impl<'a> Sight<'a> {
             row: None,
         }
     }
+}
 
-    /// The values of the variables.
-    fn var(&self, number: usize) -> u32
-        ensures { result ≡ get_or (seen self.now).vars number 0 }
-    {
+impl Valued for Sight<'_> {
+    ghost seen = { seen };
+
+    fn var(&self, number: usize) -> u32 {
         number_at(self.state.vars.as_slice(), number)
     }
 
-    /// The values of the data parameters.
-    fn param(&self, number: usize) -> u32
-        ensures { result ≡ get_or (seen self.now).params number 0 }
-    {
-        number_at(self.params, number)
-    }
-
-    /// The value of a cell of a named row.
-    fn cell(&self, row: usize, column: usize) -> u32
-        ensures { result ≡ get_or (get_or (seen self.now).rows row []) column 0 }
-    {
+    fn cell(&self, row: usize, column: usize) -> u32 {
         let named = self.relations.len().min(self.chosen.len());
         if row < named {
             number_at(
@@ -100,6 +84,10 @@ impl<'a> Sight<'a> {
         } else {
             0
         }
+    }
+
+    fn param(&self, number: usize) -> u32 {
+        number_at(self.params, number)
     }
 }
 
@@ -117,37 +105,16 @@ pub fn beside<'a>(sight: &Sight<'a>, cells: &'a [u32]) -> Sight<'a>
     }
 }
 
-/// The element of a base.
-fn value_of_base(db: &Database, sight: &Sight, base: Base) -> u32
-    ensures { result ≡ the_base db.now (seen sight.now) base }
-{
-    match base {
-        Base::Var(v) => sight.var(v.n as usize),
-        Base::Cell { row, column } => sight.cell(row as usize, column as usize),
-        Base::Constant(c) => constant_value(db, c),
-        Base::Undef(_) => 0,
-        Base::Param(p) => sight.param(p as usize),
-    }
-}
-
 /// The value of a term.
 pub fn value(db: &Database, sight: &Sight, term: &Term) -> u32
     ensures { result ≡ the_value db.now (seen sight.now) term.now }
 {
-    image_along(
-        db,
-        term.path.as_slice(),
-        value_of_base(db, sight, term.base),
-    )
+    ras_logic::value(db.raw(), sight, term)
 }
 
 /// Whether a literal holds.
 pub fn holds(db: &Database, sight: &Sight, literal: &Literal) -> bool
     ensures { result ≡ the_truth db.now (seen sight.now) literal.now }
 {
-    match literal {
-        Literal::Equal { left, right, same } => {
-            (value(db, sight, left) == value(db, sight, right)) == *same
-        }
-    }
+    ras_logic::holds(db.raw(), sight, literal)
 }

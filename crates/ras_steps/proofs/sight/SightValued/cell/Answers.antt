@@ -1,7 +1,7 @@
 use Rattle.std.proofs.Common.{◌≡◌, ◌<◌, ◌≤◌, List, ℕ, [], length, get_or, min, sym, ◌∙◌, ap, arith}
 use Rattle.std.specs.Option.{option_copied}
 use Rattle.ras_steps.proofs.NamedRows.{named_cells, updated_cells, no_updated_cells, cells_behind}
-use Rattle.ras_steps.proofs.sight.Sight.cell.Goals as goal
+use Rattle.ras_steps.proofs.sight.SightValued.cell.Goals as goal
 
 pub returns-then-row-named : goal.returns-then-row-named
 returns-then-row-named c =
