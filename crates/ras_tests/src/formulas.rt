@@ -1,58 +1,31 @@
-use ras_logic::{
-    Base, Cube, FunDecl, FunId, List, Literal, Plain, RawDb, RelId, Rows, Schema, Shape, Shared,
-    SortId, Term,
-};
-use std::alloc::{AllocError, Global};
+use ras_fixture::{Said, Sizes, cube, shape};
+use ras_logic::{Base, List, Plain, RawDb, Shared};
 use std::test::Fail;
 
-fn owner(alloc: Global) -> Result<Term, AllocError> {
-    let mut path = List::new(alloc);
-    path.push(FunId { n: 0 })?;
-    Ok(Term {
-        base: Base::Cell { row: 0, column: 0 },
-        path,
-    })
-}
+// Each person of the second sort has one of the first, and there is a variable.
+const OWNERS: Sizes = Sizes {
+    sorts: 2,
+    functions: &[(1, 0, true)],
+    constants: &[],
+    vars: &[1],
+    relations: &[],
+};
 
-// The cube of one row whose second cell is not the image of its first.
-fn cube(alloc: Global) -> Result<Option<Cube>, AllocError> {
-    let mut rows = Rows::new(alloc);
-    rows.push(RelId { n: 0 })?;
-    let left = Term {
-        base: Base::Cell { row: 0, column: 1 },
-        path: List::new(alloc),
-    };
-    let right = owner(alloc)?;
-    let mut literals = List::new(alloc);
-    literals.push(Literal::Equal {
-        left,
-        right,
-        same: false,
-    })?;
-    Ok(Cube::new(rows, literals).ok())
-}
-
-fn shape(alloc: Global) -> Result<Option<Shape>, AllocError> {
-    let source = SortId { n: 1 };
-    let target = SortId { n: 0 };
-    let mut functions = List::new(alloc);
-    functions.push(FunDecl {
-        source,
-        target,
-        total: true,
-    })?;
-    let mut vars = List::new(alloc);
-    vars.push(source)?;
-    match Schema::new(2, functions, List::new(alloc)) {
-        Ok(schema) => Ok(Shape::new(schema, vars, List::new(alloc)).ok()),
-        Err(_) => Ok(None),
-    }
-}
+// One row, whose second cell is not the image of its first.
+const A_ROW: Said = Said {
+    rows: &[0],
+    params: &[],
+    literals: &[(
+        (Base::Cell { row: 0, column: 1 }, &[]),
+        (Base::Cell { row: 0, column: 0 }, &[0]),
+        false,
+    )],
+};
 
 #[test]
 fn a_cube_its_copy_and_its_problem_are_made(rt: HostRuntime) -> Result<(), Fail> {
     let alloc = rt.alloc();
-    let cube = cube(alloc)?.ok_or("a cube")?;
+    let cube = cube(alloc, A_ROW).ok_or("a cube")?;
     let copy = cube.copy(alloc)?;
     assert!(rt; copy.equal(&cube));
     let problem = copy.problem(alloc)?;
@@ -63,7 +36,7 @@ fn a_cube_its_copy_and_its_problem_are_made(rt: HostRuntime) -> Result<(), Fail>
 #[test]
 fn a_literal_is_made_of_other_rows(rt: HostRuntime) -> Result<(), Fail> {
     let alloc = rt.alloc();
-    let cube = cube(alloc)?.ok_or("a cube")?;
+    let cube = cube(alloc, A_ROW).ok_or("a cube")?;
     let literal = cube.literals().first().ok_or("a literal")?;
     let other = literal.with_rows(alloc, &[2])?.opposite();
     assert_eq!(rt; other.left().base, Base::Cell { row: 2, column: 1 });
@@ -74,7 +47,7 @@ fn a_literal_is_made_of_other_rows(rt: HostRuntime) -> Result<(), Fail> {
 #[test]
 fn a_shared_cube_gets_another_owner(rt: HostRuntime) -> Result<(), Fail> {
     let alloc = rt.alloc();
-    let cube = cube(alloc)?.ok_or("a cube")?;
+    let cube = cube(alloc, A_ROW).ok_or("a cube")?;
     let shared = Shared::new(alloc, cube)?;
     let another = shared.another()?;
     assert!(rt; another.get().equal(shared.get()));
@@ -84,7 +57,7 @@ fn a_shared_cube_gets_another_owner(rt: HostRuntime) -> Result<(), Fail> {
 #[test]
 fn a_shape_and_a_database_are_copied(rt: HostRuntime) -> Result<(), Fail> {
     let alloc = rt.alloc();
-    let shape = shape(alloc)?.ok_or("a shape")?;
+    let shape = shape(alloc, OWNERS).ok_or("a shape")?;
     let copy = shape.copy(alloc)?;
     assert!(rt; copy.equal(&shape));
     let db = RawDb {

@@ -3,15 +3,7 @@
 #![tactic(auto)]
 
 #[cfg(test)]
-mod closing;
-#[cfg(test)]
 mod formulas;
-#[cfg(test)]
-mod journals;
-#[cfg(test)]
-mod refuting;
-#[cfg(test)]
-mod solving;
 #[cfg(test)]
 mod systems;
 #[cfg(test)]

@@ -1,89 +1,67 @@
-use ras_logic::{
-    Base, Cube, FunDecl, List, Literal, Plain, Problem, RelId, Rows, Schema, Shape, SortId, Term,
-    VarId,
-};
+use ras_fixture::{Said, Sizes, cube, literals, rows, shape, sorts, term};
+use ras_logic::{Base, Cube, List, Plain, Problem, RelId, Rows, SortId, VarId};
 use ras_preimage::pre;
 use ras_system::{Assign, Bulk, System, Target, Transition, Update};
 use std::alloc::{AllocError, Global};
 use std::test::Fail;
 
-fn undef(alloc: Global) -> Term {
-    Term {
-        base: Base::Undef(SortId { n: 0 }),
-        path: List::new(alloc),
-    }
-}
+// One sort, a variable of it, and a relation with one column of it.
+const ONE_CELL: Sizes = Sizes {
+    sorts: 1,
+    functions: &[],
+    constants: &[],
+    vars: &[0],
+    relations: &[&[0]],
+};
 
-// That the only cell of a row is undef.
-fn is_undef(alloc: Global, row: u16) -> Literal {
-    let left = Term {
-        base: Base::Cell { row, column: 0 },
-        path: List::new(alloc),
-    };
-    Literal::Equal {
-        left,
-        right: undef(alloc),
-        same: true,
-    }
-}
+const UNDEF: Base = Base::Undef(SortId { n: 0 });
 
-fn undef_row(alloc: Global) -> Option<Cube> {
-    let mut rows = Rows::new(alloc);
-    rows.push(RelId { n: 0 }).ok()?;
-    let mut literals = List::new(alloc);
-    literals.push(is_undef(alloc, 0)).ok()?;
-    Cube::new(rows, literals).ok()
-}
+// That the cell of the one row is undef.
+const UNDEF_ROW: Said = Said {
+    rows: &[0],
+    params: &[],
+    literals: &[((Base::Cell { row: 0, column: 0 }, &[]), (UNDEF, &[]), true)],
+};
+
+// That the cell of the row behind the one that the step names is undef.
+const UNDEF_NEXT_ROW: Said = Said {
+    rows: &[],
+    params: &[],
+    literals: &[((Base::Cell { row: 1, column: 0 }, &[]), (UNDEF, &[]), true)],
+};
 
 fn bulk(alloc: Global) -> Result<Bulk, AllocError> {
     let mut assigns = List::new(alloc);
-    let term = undef(alloc);
+    let term = term(alloc, UNDEF, &[])?;
     assigns.push(Assign { column: 0, term })?;
-    let mut condition = List::new(alloc);
-    condition.push(is_undef(alloc, 1))?;
     Ok(Bulk {
         relation: RelId { n: 0 },
-        condition,
+        condition: literals(alloc, UNDEF_NEXT_ROW.literals)?,
         assigns,
     })
 }
 
 /// A step with something of each kind: the variable becomes undef, and rows that are undef become so again.
 fn transition(alloc: Global) -> Result<Transition, AllocError> {
-    let mut rows = Rows::new(alloc);
-    rows.push(RelId { n: 0 })?;
-    let mut params = List::new(alloc);
-    params.push(SortId { n: 0 })?;
-    let mut guard: List<List<Literal>> = List::new(alloc);
+    let mut guard = List::new(alloc);
     guard.push(List::new(alloc))?;
     let mut updates = List::new(alloc);
     let target = Target::Var(VarId { n: 0 });
-    let term = undef(alloc);
+    let term = term(alloc, UNDEF, &[])?;
     updates.push(Update { target, term })?;
     let mut cases = List::new(alloc);
     cases.push(bulk(alloc)?)?;
     Ok(Transition {
-        rows,
-        params,
+        rows: rows(alloc, &[0])?,
+        params: sorts(alloc, &[0])?,
         guard,
         updates,
         bulk: cases,
     })
 }
 
-/// One sort, a variable of it, and a relation with one column of it.
-fn shape(alloc: Global) -> Result<Shape, Fail> {
-    let functions: List<FunDecl> = List::new(alloc);
-    let schema = Schema::new(1, functions, List::new(alloc))?;
-    let mut sorts = List::new(alloc);
-    sorts.push(SortId { n: 0 })?;
-    let mut relations = List::new(alloc);
-    relations.push(sorts.copy(alloc)?)?;
-    Ok(Shape::new(schema, sorts, relations)?)
-}
-
 fn system(alloc: Global) -> Result<System, Fail> {
-    let shape = shape(alloc)?;
+    let shape = shape(alloc, ONE_CELL).ok_or("a shape")?;
     let mut initial = List::new(alloc);
     initial.push(None)?;
     let mut transitions = List::new(alloc);
@@ -106,7 +84,7 @@ fn preimage(alloc: Global) -> Result<Option<List<Problem>>, Fail> {
     if system.transitions().is_empty() {
         return Ok(None);
     }
-    let Some(cube) = undef_row(alloc) else {
+    let Some(cube) = cube(alloc, UNDEF_ROW) else {
         return Ok(None);
     };
     Ok(Some(pre(alloc, &system, 0, &cube)?))

@@ -1,40 +1,19 @@
 use ras_closure::{Closure, Model, param_elements};
-use ras_logic::{
-    Base, FunDecl, FunId, List, Literal, Problem, Rows, Schema, Shape, SortId, Term, fits,
-};
+use ras_fixture::{Sizes, shape, term};
+use ras_logic::{Base, List, Literal, Problem, Rows, SortId, fits};
 use std::alloc::{AllocError, Global};
 use std::test::Fail;
 
 const PARCEL: SortId = SortId { n: 0 };
 
-const SHELF: SortId = SortId { n: 1 };
-
 // Each parcel has a shelf.
-fn shape(alloc: Global) -> Option<Shape> {
-    let mut functions = List::new(alloc);
-    let shelf = FunDecl {
-        source: PARCEL,
-        target: SHELF,
-        total: true,
-    };
-    functions.push(shelf).ok()?;
-    let schema = Schema::new(2, functions, List::new(alloc)).ok()?;
-    Shape::new(schema, List::new(alloc), List::new(alloc)).ok()
-}
-
-// A data parameter.
-fn parcel(alloc: Global, number: u16) -> Term {
-    Term {
-        base: Base::Param(number),
-        path: List::new(alloc),
-    }
-}
-
-fn shelf_of(alloc: Global, number: u16) -> Result<Term, AllocError> {
-    let mut term = parcel(alloc, number);
-    term.path.push(FunId { n: 0 })?;
-    Ok(term)
-}
+const SHELVES: Sizes = Sizes {
+    sorts: 2,
+    functions: &[(0, 1, true)],
+    constants: &[],
+    vars: &[],
+    relations: &[],
+};
 
 // Parcels whose shelves are terms of the problem, though nothing is said of them.
 fn parcels(alloc: Global, count: u16) -> Result<Problem, AllocError> {
@@ -43,8 +22,8 @@ fn parcels(alloc: Global, count: u16) -> Result<Problem, AllocError> {
     for number in 0..count {
         params.push(PARCEL)?;
         literals.push(Literal::Equal {
-            left: shelf_of(alloc, number)?,
-            right: shelf_of(alloc, number)?,
+            left: term(alloc, Base::Param(number), &[0])?,
+            right: term(alloc, Base::Param(number), &[0])?,
             same: true,
         })?;
     }
@@ -56,8 +35,8 @@ fn parcels(alloc: Global, count: u16) -> Result<Problem, AllocError> {
 }
 
 fn join(alloc: Global, closure: &mut Closure, number: u16, next: u16) -> Option<()> {
-    let left = closure.term(&parcel(alloc, number))?;
-    let right = closure.term(&parcel(alloc, next))?;
+    let left = closure.term(&term(alloc, Base::Param(number), &[]).ok()?)?;
+    let right = closure.term(&term(alloc, Base::Param(next), &[]).ok()?)?;
     if !closure.are_of_one_sort(left, right) {
         return None;
     }
@@ -73,8 +52,8 @@ fn join_all(alloc: Global, closure: &mut Closure, count: u16) -> Option<()> {
 }
 
 fn have_one_shelf(alloc: Global, closure: &Closure, number: u16) -> Option<bool> {
-    let left = closure.term(&shelf_of(alloc, 0).ok()?)?;
-    let right = closure.term(&shelf_of(alloc, number).ok()?)?;
+    let left = closure.term(&term(alloc, Base::Param(0), &[0]).ok()?)?;
+    let right = closure.term(&term(alloc, Base::Param(number), &[0]).ok()?)?;
     Some(closure.same(left, right))
 }
 
@@ -97,7 +76,7 @@ fn chain_steps(alloc: Global, closure: &mut Closure, count: u16) -> Option<u64> 
 }
 
 fn steps(alloc: Global, count: u16) -> Option<u64> {
-    let shape = shape(alloc)?;
+    let shape = shape(alloc, SHELVES)?;
     let problem = parcels(alloc, count).ok()?;
     if !fits(&shape, &problem) {
         return None;
@@ -106,7 +85,8 @@ fn steps(alloc: Global, count: u16) -> Option<u64> {
     chain_steps(alloc, &mut closure, count)
 }
 
-// How many entries of its tables a closure looks at is counted: it grows no faster than the square of the chain's length.
+// How many entries of its tables a closure looks at is counted: at least one for each parcel, and no more than grows with the
+// square of the chain's length.
 #[test]
 fn a_chain_of_up_to_400_parcels_takes_a_square_number_of_steps(
     rt: HostRuntime,
@@ -114,6 +94,7 @@ fn a_chain_of_up_to_400_parcels_takes_a_square_number_of_steps(
     let mut half = u64::MAX;
     for count in [50, 100, 200, 400] {
         let steps = steps(rt.alloc(), count).ok_or("one shelf")?;
+        assert!(rt; u64::from(count) <= steps, "{count} parcels are joined");
         assert!(rt; steps <= half.saturating_mul(4), "{count} parcels");
         half = steps;
     }
@@ -145,7 +126,7 @@ fn is_made(alloc: Global, closure: &Closure) -> Option<bool> {
 }
 
 fn two_parcels_are_made(alloc: Global) -> Option<bool> {
-    let shape = shape(alloc)?;
+    let shape = shape(alloc, SHELVES)?;
     let problem = parcels(alloc, 2).ok()?;
     if !fits(&shape, &problem) {
         return None;

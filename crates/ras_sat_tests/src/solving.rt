@@ -1,62 +1,47 @@
-ghost use Rattle.std.specs.Prelude.{IsTrue, All};
-ghost use Rattle.ras_logic.specs.Formulas.{Fits};
-
+use ras_fixture::{Sizes, formulas_fit, shape, term};
 use ras_logic::{
-    Base, ConstId, Cube, List, Literal, Node, Problem, Rows, Schema, Shape, Shared, SortId, Term,
-    Tree, VarId, cube_fits, fits,
+    Base, ConstId, Cube, List, Literal, Node, Problem, Rows, Shape, Shared, Tree, VarId, fits,
 };
 use ras_sat::{Decision, Instance, are_instances, decide};
-use std::alloc::Global;
+use std::alloc::{AllocError, Global};
 use std::test::Fail;
 
-fn people(alloc: Global, count: u16) -> Option<List<SortId>> {
-    let mut people = List::new(alloc);
-    for _ in 0..count {
-        people.push(SortId { n: 0 }).ok()?;
-    }
-    Some(people)
-}
-
 // One person is a constant, and 64 are variables.
-fn shape(alloc: Global) -> Option<Shape> {
-    let schema = Schema::new(1, List::new(alloc), people(alloc, 1)?).ok()?;
-    Shape::new(schema, people(alloc, 64)?, List::new(alloc)).ok()
-}
-
-fn term(alloc: Global, base: Base) -> Term {
-    Term {
-        base,
-        path: List::new(alloc),
-    }
-}
+const PEOPLE: Sizes = Sizes {
+    sorts: 1,
+    functions: &[],
+    constants: &[0],
+    vars: &[0; 64],
+    relations: &[],
+};
 
 // That a variable is the constant, or that it is not.
-fn literal(alloc: Global, var: u16, same: bool) -> Literal {
-    Literal::Equal {
-        left: term(alloc, Base::Var(VarId { n: var })),
-        right: term(alloc, Base::Constant(ConstId { n: 0 })),
+fn literal(alloc: Global, var: u16, same: bool) -> Result<Literal, AllocError> {
+    Ok(Literal::Equal {
+        left: term(alloc, Base::Var(VarId { n: var }), &[])?,
+        right: term(alloc, Base::Constant(ConstId { n: 0 }), &[])?,
         same,
-    }
+    })
 }
 
-fn literals(alloc: Global, said: &[(u16, bool)]) -> Option<List<Literal>> {
+fn literals(alloc: Global, said: &[(u16, bool)]) -> Result<List<Literal>, AllocError> {
     let mut literals = List::new(alloc);
     for (var, same) in said {
-        literals.push(literal(alloc, *var, *same)).ok()?;
+        literals.push(literal(alloc, *var, *same)?)?;
     }
-    Some(literals)
+    Ok(literals)
 }
 
 fn premise(alloc: Global, said: &[(u16, bool)]) -> Option<Problem> {
     Some(Problem {
         rows: Rows::new(alloc),
         params: List::new(alloc),
-        literals: literals(alloc, said)?,
+        literals: literals(alloc, said).ok()?,
     })
 }
 
 fn formula(alloc: Global, said: &[(u16, bool)]) -> Option<Shared<Cube>> {
-    let cube = Cube::new(Rows::new(alloc), literals(alloc, said)?).ok()?;
+    let cube = Cube::new(Rows::new(alloc), literals(alloc, said).ok()?).ok()?;
     Shared::new(alloc, cube).ok()
 }
 
@@ -72,17 +57,6 @@ fn instances(alloc: Global, formulas: &[u32]) -> Option<Vec<Instance>> {
             .ok()?;
     }
     Some(instances)
-}
-
-fn formulas_fit(shape: &Shape, formulas: &[Shared<Cube>]) -> bool
-    ensures { IsTrue result → All (Fits shape.now) formulas.now }
-{
-    for formula in formulas {
-        if !cube_fits(shape, formula.get()) {
-            return false;
-        }
-    }
-    true
 }
 
 fn decide_over(
@@ -107,7 +81,7 @@ fn answer(
     formulas: &[Shared<Cube>],
     numbers: &[u32],
 ) -> Option<Decision> {
-    let shape = shape(alloc)?;
+    let shape = shape(alloc, PEOPLE)?;
     let premise = premise(alloc, said)?;
     let instances = instances(alloc, numbers)?;
     decide_over(alloc, &shape, &premise, formulas, &instances)

@@ -2,7 +2,7 @@ use Rattle.std.proofs.Common.{◌∙◌, subst}
 use Rattle.std.proofs.lemmas.List.Elements.{All-more}
 use Rattle.std.proofs.lemmas.List.{take_all}
 use Rattle.ras_logic.specs.Formulas.{Fits}
-use Rattle.ras_tests.proofs.solving.formulas_fit.Goals as goal
+use Rattle.ras_fixture.proofs.fitting.formulas_fit.Goals as goal
 
 pub loop-formula-preserved : goal.loop-formula-preserved
 loop-formula-preserved c =
