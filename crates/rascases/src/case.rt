@@ -1,4 +1,5 @@
 //! A case: words, files and faults of the outside, and what is wanted of them.
+ghost use Rattle.std.specs.Prelude.{◌≡◌, ◌↔◌, IsTrue, IfSome};
 
 use crate::content::{Content, Named};
 use ras_cli::verify_quiet;
@@ -27,7 +28,9 @@ pub struct End {
 
 impl End {
     /// Whether this end is the one that is wanted.
-    pub fn is_as(&self, wanted: &End) -> bool {
+    pub fn is_as(&self, wanted: &End) -> bool
+        ensures { IsTrue result ↔ ((self.now.status ≡ wanted.now.status) × IfSome wanted.now.output (λ bytes. IfSome self.now.output (λ came. came.items ≡ bytes.items))) }
+    {
         self.status == wanted.status
             && match (&self.output, &wanted.output) {
                 (Some(came), Some(wanted)) => came.as_slice() == wanted.as_slice(),

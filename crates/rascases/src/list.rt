@@ -228,13 +228,13 @@ fn tell<K: Sink>(
 pub fn carry_out<R: Threads + Sync, K: Sink>(
     rt: &R,
     alloc: Global,
-    list: &str,
+    list: &'static str,
     bytes: &[u8],
     out: &mut K,
     counts: &mut Counts,
 ) -> Result<(), Halt> {
     let Ok(text) = str::from_utf8(bytes) else {
-        return Err(Halt::Unread);
+        return Err(Halt::Unread { list });
     };
     let mut reader = Reader::new(alloc);
     let mut number = 0u32;

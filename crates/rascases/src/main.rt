@@ -1,6 +1,7 @@
 //! The program `rascases`: lists of cases come in, as files of its folder; each case is carried out by `verify_quiet`, over files
 //! and a sink in memory. The places of the cases that end otherwise than wanted go out, with what was wanted and what came, and
-//! last a line with the numbers of cases that passed and failed.
+//! last a line with the numbers of cases that passed and failed. Where no more cases can be carried out, the standard error
+//! tells why.
 #![tactic(auto)]
 
 mod case;
@@ -17,7 +18,7 @@ use std::process::ExitCode;
 use std::thread::Threads;
 
 /// The lists of cases.
-const LISTS: [&str; 8] = [
+const LISTS: [&'static str; 8] = [
     "words.cases",
     "refused_files.cases",
     "canonical_texts.cases",
@@ -39,7 +40,10 @@ fn carry_out_lists<R: Threads + Sync, H: Shelf, K: Sink>(
     counts: &mut Counts,
 ) -> Result<(), Halt> {
     for name in LISTS {
-        let bytes = shelf.load(alloc, name, LONGEST_LIST)?;
+        let bytes = match shelf.load(alloc, name, LONGEST_LIST) {
+            Ok(bytes) => bytes,
+            Err(fault) => return Err(Halt::of_load(name, fault)),
+        };
         carry_out(rt, alloc, name, &bytes, out, counts)?;
     }
     counts.put(alloc, out)
@@ -51,6 +55,11 @@ fn main(rt: HostRuntime) -> ExitCode {
     let mut counts = Counts::new();
     match carry_out_lists(&rt, rt.alloc(), &mut shelf, &mut out, &mut counts) {
         Ok(()) if counts.failed == 0 => ExitCode::SUCCESS,
-        _ => ExitCode::FAILURE,
+        Ok(()) => ExitCode::FAILURE,
+        Err(halt) => {
+            // the status tells of it too
+            let _is_told = halt.put(&mut StdSink::error(rt));
+            ExitCode::FAILURE
+        }
     }
 }

@@ -1,4 +1,5 @@
 //! What is told of cases.
+ghost use Rattle.std.specs.Prelude.{◌≡◌, ◌<◌};
 
 use crate::case::End;
 use ras_outside::{LoadFault, Sink, SinkFault};
@@ -7,8 +8,8 @@ use std::alloc::{AllocError, Global};
 /// Why no more cases are carried out.
 #[derive(Drop)]
 pub enum Halt {
-    /// A list could not be read.
-    Unread,
+    /// This list could not be read.
+    Unread { list: &'static str },
     /// The output could not be written.
     Unwritten,
     /// Memory is wanting.
@@ -27,11 +28,24 @@ impl From<SinkFault> for Halt {
     }
 }
 
-impl From<LoadFault> for Halt {
-    fn from(fault: LoadFault) -> Halt {
+impl Halt {
+    /// What a fault of loading this list means.
+    pub fn of_load(list: &'static str, fault: LoadFault) -> Halt {
         match fault {
             LoadFault::Memory(_) => Halt::Memory,
-            LoadFault::Failed | LoadFault::TooLong => Halt::Unread,
+            LoadFault::Failed | LoadFault::TooLong => Halt::Unread { list },
+        }
+    }
+
+    /// Writes why no more cases are carried out; where that cannot be written either, nothing is left to be done.
+    pub fn put<K: Sink>(&self, out: &mut K) -> Result<(), SinkFault> {
+        match self {
+            Halt::Unread { list } => {
+                out.put(list.as_bytes())?;
+                out.put(b" could not be read\n")
+            }
+            Halt::Unwritten => out.put(b"the output could not be written\n"),
+            Halt::Memory => out.put(b"memory is wanting\n"),
         }
     }
 }
@@ -51,11 +65,16 @@ impl Counts {
         }
     }
 
-    pub fn pass(&mut self) {
+    pub fn pass(&mut self)
+        ensures { self.new.failed ≡ self.old.failed }
+    {
         self.passed = self.passed.saturating_add(1);
     }
 
-    pub fn fail(&mut self) {
+    pub fn fail(&mut self)
+        ensures failed { 0 < self.new.failed }
+        ensures passed { self.new.passed ≡ self.old.passed }
+    {
         self.failed = self.failed.saturating_add(1);
     }
 
