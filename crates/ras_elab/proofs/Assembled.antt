@@ -12,10 +12,10 @@ use Rattle.ras_names.specs.Unplaced.{file_of}
 use Rattle.ras_names.proofs.NameLists.{sorts_are, functions_are, constants_are, vars_are}
 use Rattle.ras_numbering.specs.FileValues.{shape_value, relation_value, system_value}
 use Rattle.ras_elab.specs.declared.elaborating.Parts.{Parts}
-use Rattle.ras_elab.specs.Agreeing.{sorts_of_columns}
+use Rattle.ras_scope.specs.Agreeing.{sorts_of_columns}
 use Rattle.ras_elab.specs.Elaborating.{ArePartsOf, named_columns, names_with, shape_with}
 use Rattle.ras_elab.proofs.NamedColumns.{named_relations}
-use Rattle.ras_elab.specs.declared.table.Table.{Table}
+use Rattle.ras_scope.specs.declared.table.Table.{Table}
 
 module _ (file : placed.File) (parts : Parts) (is : ArePartsOf file parts) where
   -- a list of columns for each relation

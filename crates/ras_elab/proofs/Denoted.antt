@@ -16,10 +16,10 @@ use Rattle.ras_names.specs.Files.{FileDenotes}
 use Rattle.ras_names.specs.FileChecks as file_checks
 use Rattle.ras_names.specs.Faults.{IsFirstFault}
 use Rattle.ras_names.specs.Texts.{TokensDenote}
-use Rattle.ras_elab.specs.declared.fault.SpecError.{SpecError}
-use Rattle.ras_elab.specs.declared.fault.SpecError.TheVariants.{Fault, Memory}
-use Rattle.ras_elab.specs.Placing.{placed_file}
-use Rattle.ras_elab.specs.Answering.{Faults}
+use Rattle.ras_scope.specs.declared.fault.SpecError.{SpecError}
+use Rattle.ras_scope.specs.declared.fault.SpecError.TheVariants.{Fault, Memory}
+use Rattle.ras_scope.specs.Placing.{placed_file}
+use Rattle.ras_scope.specs.Answering.{Faults}
 use Rattle.ras_elab.specs.Elaborating.{IsFaultOf, IsMemory}
 
 -- an error that is handed on

@@ -24,8 +24,8 @@ use Rattle.ras_names.proofs.Among.{map-map}
 use Rattle.ras_numbering.specs.Numbers.{number_in}
 use Rattle.ras_numbering.specs.TermValues.{base_value, plain_value, wanted_within, term_value, literal_value, conjunction_value, guard_value, literal_sort}
 use Rattle.ras_numbering.specs.FileValues.{goal_values, goal_value}
-use Rattle.ras_elab.proofs.Places.{number_of, no_number, among_append}
-use Rattle.ras_elab.proofs.NewNames.{used_known}
+use Rattle.ras_scope.proofs.Places.{number_of, no_number, among_append}
+use Rattle.ras_declarations.proofs.NewNames.{used_known}
 
 pass_at : {A : Type 0} (n : ℕ) (checks : ℕ → A → List Check) (xs : List A) (k : ℕ) (d : A) → k < length xs → Passes (for_each_from n checks xs) → Passes (checks (n + k) (get_or xs k d))
 pass_at n checks xs k d lt h = passed_each_from n checks xs h k (get_or xs k d) (slice_get-get_or xs k d lt)

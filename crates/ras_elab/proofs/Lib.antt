@@ -1,29 +1,5 @@
-mod SameTexts
-mod UsedNames
-mod EachRows
-mod InOrder
-mod Following
 pub mod Mended
 pub mod Seen
-mod Places
-mod SeenNames
-mod NewNames
-mod Turns
-mod Answered
-mod NamedLeads
-mod FunctionParts
-mod Initials
-mod ColumnParts
-mod InnerNames
-mod Reading
-mod SameSorts
-mod Applying
-mod InsideOut
-mod ReadTerms
-mod ReadLiterals
-mod ReadAssigned
-mod ReadCases
-mod ReadEachs
 mod StepParts
 mod SharedNames
 mod NoParams
@@ -32,4 +8,3 @@ mod NamedColumns
 mod NoFault
 mod Assembled
 mod Denoted
-mod NamedParts

@@ -10,8 +10,8 @@ use Rattle.ras_names.specs.Unplaced.{column_of, relation_of}
 use Rattle.ras_names.specs.FileNames.{names_of_relation}
 use Rattle.ras_names.specs.Checks.{declared_texts}
 use Rattle.ras_names.proofs.Among.{map-map}
-use Rattle.ras_elab.specs.declared.table.Table.{Table}
-use Rattle.ras_elab.specs.Agreeing.{names_of_columns}
+use Rattle.ras_scope.specs.declared.table.Table.{Table}
+use Rattle.ras_scope.specs.Agreeing.{names_of_columns}
 use Rattle.ras_elab.specs.Elaborating.{named_columns}
 
 -- one relation more

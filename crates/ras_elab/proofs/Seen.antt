@@ -47,7 +47,7 @@ use Rattle.ras_names.specs.Placed as placed
 use Rattle.ras_names.specs.PlacedTokens as seen
 use Rattle.ras_names.specs.PlacedTokens.{has_place, is_placed, IsFileOf}
 use Rattle.ras_names.specs.Unplaced as un
-use Rattle.ras_elab.specs.Placing as see
+use Rattle.ras_scope.specs.Placing as see
 use Rattle.ras_elab.proofs.Mended.{stays, without_closes, closes_determined}
 
 abbrev has_place_at : Token → Bool

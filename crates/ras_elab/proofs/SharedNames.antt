@@ -1,8 +1,8 @@
 -- What is declared agrees with a file whatever the shared names are.
 use Rattle.ras_names.specs.Placed as placed
-use Rattle.ras_elab.specs.declared.declared.Declared.{Declared}
-use Rattle.ras_elab.specs.declared.name_set.NameSet.{NameSet}
-use Rattle.ras_elab.specs.Agreeing.{Agrees}
+use Rattle.ras_scope.specs.declared.declared.Declared.{Declared}
+use Rattle.ras_scope.specs.declared.name_set.NameSet.{NameSet}
+use Rattle.ras_scope.specs.Agreeing.{Agrees}
 
 pub agrees_shared : (p : placed.File) (d : Declared) (shared : NameSet) → Agrees p d → Agrees p (record d { shared = shared })
 agrees_shared p d shared a = record {

@@ -13,15 +13,15 @@ use Rattle.ras_names.proofs.Among.{map-map}
 use Rattle.ras_names.proofs.Passing.{Passes, pass_both}
 use Rattle.ras_numbering.specs.Numbers.{declared_sort, declared_relation}
 use Rattle.ras_numbering.specs.FileValues.{step_names}
-use Rattle.ras_elab.specs.declared.scope.Scope.{Scope}
-use Rattle.ras_elab.specs.declared.scope.EachRow.{EachRow}
-use Rattle.ras_elab.specs.declared.fault.SpecError.{SpecError}
-use Rattle.ras_elab.specs.Answering.{Faults}
-use Rattle.ras_elab.specs.Agreeing.{Agrees, IsOfSort}
+use Rattle.ras_scope.specs.declared.scope.Scope.{Scope}
+use Rattle.ras_scope.specs.declared.scope.EachRow.{EachRow}
+use Rattle.ras_scope.specs.declared.fault.SpecError.{SpecError}
+use Rattle.ras_scope.specs.Answering.{Faults}
+use Rattle.ras_scope.specs.Agreeing.{Agrees, IsOfSort}
 use Rattle.ras_elab.specs.Bodies.{IsOfRelation, body_checks}
-use Rattle.ras_elab.specs.Scopes.{each_names}
-use Rattle.ras_elab.specs.Seeing.{Sees, each_relations}
-use Rattle.ras_elab.proofs.Following.{faults_stay, faults_follow}
+use Rattle.ras_scope.specs.Scopes.{each_names}
+use Rattle.ras_scope.specs.Seeing.{Sees, each_relations}
+use Rattle.ras_scope.proofs.Following.{faults_stay, faults_follow}
 
 -- what is read of rows and data parameters is what a step sees
 pub sees_step : (scope : Scope) (p : placed.File) (rows params : List Item) → Agrees p scope.declared.now → scope.each ≡ None → scope.rows.now.names ≡ declared_texts rows

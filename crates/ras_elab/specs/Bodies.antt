@@ -6,7 +6,7 @@ use Rattle.ras_names.specs.Placed.{Declared as Item}
 use Rattle.ras_names.specs.Checks.{Check, for_each}
 use Rattle.ras_names.specs.TermChecks.{Scope, guard_checks}
 use Rattle.ras_names.specs.StepChecks.{update_checks, each_checks}
-use Rattle.ras_elab.specs.Agreeing.{IsRelationText}
+use Rattle.ras_scope.specs.Agreeing.{IsRelationText}
 
 -- what stands behind the colon is a declared relation
 abbrev pub IsOfRelation : placed.File → Item → Type 0

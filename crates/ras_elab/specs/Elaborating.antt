@@ -14,12 +14,12 @@ use Rattle.ras_names.specs.Unplaced.{step_of, goal_of}
 use Rattle.ras_names.specs.FileNames.{names_of_step, names_of_goal}
 use Rattle.ras_names.specs.Faults.{IsFirstFault}
 use Rattle.ras_numbering.specs.FileValues.{initial_value, step_value, goal_values}
-use Rattle.ras_elab.specs.declared.table.Table.{Table}
-use Rattle.ras_elab.specs.declared.declared.Declared.{Declared}
+use Rattle.ras_scope.specs.declared.table.Table.{Table}
+use Rattle.ras_scope.specs.declared.declared.Declared.{Declared}
 use Rattle.ras_elab.specs.declared.elaborating.Parts.{Parts}
-use Rattle.ras_elab.specs.declared.fault.SpecError.{SpecError}
-use Rattle.ras_elab.specs.declared.fault.SpecError.TheVariants.{Fault, Memory}
-use Rattle.ras_elab.specs.Agreeing.{Agrees}
+use Rattle.ras_scope.specs.declared.fault.SpecError.{SpecError}
+use Rattle.ras_scope.specs.declared.fault.SpecError.TheVariants.{Fault, Memory}
+use Rattle.ras_scope.specs.Agreeing.{Agrees}
 
 -- what was read of a file is what its items say
 pub record ArePartsOf (file : placed.File) (parts : Parts) : Type 0 where

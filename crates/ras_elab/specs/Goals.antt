@@ -9,8 +9,8 @@ use Rattle.ras_names.specs.Checks.{Check, for_each}
 use Rattle.ras_names.specs.TermChecks.{guard_checks}
 use Rattle.ras_names.specs.StepChecks.{row_checks}
 use Rattle.ras_numbering.specs.FileValues.{goal_names}
-use Rattle.ras_elab.specs.declared.declared.Declared.{Declared}
-use Rattle.ras_elab.specs.Agreeing.{Agrees}
+use Rattle.ras_scope.specs.declared.declared.Declared.{Declared}
+use Rattle.ras_scope.specs.Agreeing.{Agrees}
 
 -- what is declared is that of some file
 pub record IsOfFile (declared : Declared) : Type 0 where

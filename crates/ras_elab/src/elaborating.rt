@@ -11,24 +11,24 @@ ghost use Rattle.ras_names.specs.FileChecks as file_checks;
 ghost use Rattle.ras_names.specs.FileChecks.{first_fault};
 ghost use Rattle.ras_names.specs.Texts.{TokensDenote};
 ghost use Rattle.ras_numbering.specs.FileValues.{system_value};
-ghost use Rattle.ras_elab.specs.Placing.{placed_file};
-ghost use Rattle.ras_elab.specs.Answering.{Answers};
-ghost use Rattle.ras_elab.specs.Agreeing.{sorts_of_columns};
+ghost use Rattle.ras_scope.specs.Placing.{placed_file};
+ghost use Rattle.ras_scope.specs.Answering.{Answers};
+ghost use Rattle.ras_scope.specs.Agreeing.{sorts_of_columns};
 ghost use Rattle.ras_elab.specs.Elaborating.{ArePartsOf, named_columns, names_with, shape_with, IsFaultOf, IsMemory};
 
-use crate::declarations::read_declarations;
-use crate::declared::Declared;
-use crate::fault::SpecError;
 use crate::goals::read_goals;
 use crate::law::a_tree_is_a_placed_file;
-use crate::name_set::NameSet;
 use crate::steps::read_steps;
-use crate::table::Table;
+use ras_declarations::declarations::read_declarations;
 use ras_lexer::Text;
 use ras_logic::{ConstId, Cube, FunDecl, List, Schema, Shape, SortId};
 use ras_names::law::tokens_with_a_fault_denote_nothing;
 use ras_names::{GoalNames, Names, RelNames, StepNames};
 use ras_numbering::law::a_file_without_a_fault_denotes_its_value;
+use ras_scope::declared::Declared;
+use ras_scope::fault::SpecError;
+use ras_scope::name_set::NameSet;
+use ras_scope::table::Table;
 use ras_syntax::{File, Tree};
 use ras_system::{System, Transition};
 use std::alloc::{AllocError, Global};
@@ -72,17 +72,6 @@ fn read_items(alloc: Global, file: &File) -> Result<Parts, SpecError>
     })
 }
 
-/// Sorts, in memory of their own.
-fn copy_sorts(alloc: Global, sorts: &[SortId]) -> Result<List<SortId>, AllocError>
-    ensures { IfOk result (λ copy. copy ≡ sorts.now) }
-{
-    let mut copy = List::new(alloc);
-    for sort in sorts {
-        copy.push(*sort)?;
-    }
-    Ok(copy)
-}
-
 /// The relations, by the sorts of their columns and by their names.
 #[derive(Drop)]
 struct Relations {
@@ -110,21 +99,10 @@ fn name_columns(
         let table = &columns[i];
         let columns = table.names().list(alloc)?;
         relations.names.push(RelNames { name, columns })?;
-        let sorts = copy_sorts(alloc, table.values())?;
-        relations.sorts.push(sorts)?;
+        let sorts = table.values().to_vec(alloc)?;
+        relations.sorts.push(List::from_vec(sorts))?;
     }
     Ok(relations)
-}
-
-/// The parts of a shape, and all names.
-#[derive(Drop)]
-struct Described {
-    sorts: u16,
-    functions: List<FunDecl>,
-    constants: List<SortId>,
-    vars: List<SortId>,
-    relations: List<List<SortId>>,
-    names: Names,
 }
 
 /// All names: those of the declared parts, and these.
@@ -152,34 +130,6 @@ fn name_parts(
         relations,
         steps,
         goals,
-    })
-}
-
-/// What is declared, by numbers and by names.
-fn describe(
-    alloc: Global,
-    system: Text,
-    declared: Declared,
-    steps: List<StepNames>,
-    goals: List<GoalNames>,
-) -> Result<Described, AllocError>
-    requires { length declared.relations ≡ length declared.columns.items }
-    ensures sorts { IfOk result (λ d. d.sorts ≡ length declared.sorts) }
-    ensures functions { IfOk result (λ d. d.functions ≡ declared.functions.values.items) }
-    ensures constants { IfOk result (λ d. d.constants ≡ declared.constants.values.items) }
-    ensures vars { IfOk result (λ d. d.vars ≡ declared.vars.values.items) }
-    ensures relations { IfOk result (λ d. d.relations ≡ sorts_of_columns declared.columns.items) }
-    ensures names { IfOk result (λ d. d.names ≡ names_with system declared steps goals) }
-{
-    let relations = name_columns(alloc, &declared.relations, declared.columns.as_slice())?;
-    let names = name_parts(alloc, system, &declared, relations.names, steps, goals)?;
-    Ok(Described {
-        sorts: declared.sorts.count(),
-        functions: declared.functions.into_values(),
-        constants: declared.constants.into_values(),
-        vars: declared.vars.into_values(),
-        relations: relations.sorts,
-        names,
     })
 }
 
@@ -230,17 +180,23 @@ fn assemble(alloc: Global, file: &File, parts: Parts) -> Result<Spec, AllocError
         goals,
     } = parts;
     a_file_without_a_fault_denotes_its_value();
-    let described = describe(alloc, file.name.text, declared, steps, goals)?;
-    let shape = new_shape(
-        described.sorts,
-        described.functions,
-        described.constants,
-        described.vars,
-        described.relations,
-    );
+    let relations = name_columns(alloc, &declared.relations, declared.columns.as_slice())?;
+    let names = name_parts(
+        alloc,
+        file.name.text,
+        &declared,
+        relations.names,
+        steps,
+        goals,
+    )?;
+    let sorts = declared.sorts.count();
+    let functions = declared.functions.into_values();
+    let constants = declared.constants.into_values();
+    let vars = declared.vars.into_values();
+    let shape = new_shape(sorts, functions, constants, vars, relations.sorts);
     Ok(Spec {
         system: new_system(shape, initial, transitions, cubes),
-        names: described.names,
+        names,
     })
 }
 

@@ -9,20 +9,20 @@ ghost use Rattle.ras_names.specs.TermChecks.{guard_checks};
 ghost use Rattle.ras_names.specs.StepChecks.{row_checks};
 ghost use Rattle.ras_names.specs.FileChecks.{above_step, goal_checks};
 ghost use Rattle.ras_numbering.specs.FileValues.{goal_names, goal_values};
-ghost use Rattle.ras_elab.specs.Placing.{placed_goal, placed_file};
-ghost use Rattle.ras_elab.specs.Answering.{Answers};
-ghost use Rattle.ras_elab.specs.Agreeing.{Agrees};
+ghost use Rattle.ras_scope.specs.Placing.{placed_goal, placed_file};
+ghost use Rattle.ras_scope.specs.Answering.{Answers};
+ghost use Rattle.ras_scope.specs.Agreeing.{Agrees};
 ghost use Rattle.ras_elab.specs.Goals.{IsOfFile, item_checks, cube_of};
 
-use crate::declared::Declared;
-use crate::fault::SpecError;
-use crate::formulas::read_guard;
-use crate::scope::Scope;
-use crate::steps::{few_rows, read_rows};
-use crate::table::Table;
-use ras_logic::{Cube, List, Literal, RelId};
+use crate::steps::read_rows;
+use ras_logic::{Cube, List, Literal, Plain, RelId, Rows};
 use ras_names::GoalNames;
+use ras_scope::declared::Declared;
+use ras_scope::fault::SpecError;
+use ras_scope::scope::Scope;
+use ras_scope::table::Table;
 use ras_syntax as tree;
+use ras_terms::formulas::read_guard;
 use std::alloc::{AllocError, Global};
 
 /// The goals of a file, and the names of its unsafe items.
@@ -36,14 +36,13 @@ pub(crate) struct Goals {
 fn add_goal(
     alloc: Global,
     cubes: &mut List<Cube>,
-    relations: &[RelId],
+    rows: &Rows,
     literals: List<Literal>,
 ) -> Result<(), AllocError>
     requires { All HasNoParam literals }
-    ensures { OnOk result (cubes.new ≡ cubes.old ++ cube_of relations.now literals ∷ []) }
+    ensures { OnOk result (cubes.new ≡ cubes.old ++ cube_of rows.now literals ∷ []) }
 {
-    let rows = few_rows(alloc, relations)?;
-    let cube = Cube::new(rows, literals).unwrap();
+    let cube = Cube::new(rows.copy(alloc)?, literals).unwrap();
     cubes.push(cube)
 }
 
@@ -51,14 +50,14 @@ fn add_goal(
 fn add_goals(
     alloc: Global,
     cubes: &mut List<Cube>,
-    relations: &[RelId],
+    rows: &Rows,
     disjuncts: List<List<Literal>>,
 ) -> Result<(), AllocError>
     requires { All (All HasNoParam) disjuncts }
-    ensures { OnOk result (cubes.new ≡ cubes.old ++ map (cube_of relations.now) disjuncts) }
+    ensures { OnOk result (cubes.new ≡ cubes.old ++ map (cube_of rows.now) disjuncts) }
 {
     for literals in disjuncts.into_vec() {
-        add_goal(alloc, cubes, relations, literals)?;
+        add_goal(alloc, cubes, rows, literals)?;
     }
     Ok(())
 }
@@ -114,8 +113,8 @@ fn add_item(
         disjuncts: all,
     } = item;
     let disjuncts = all.len() as u16;
-    add_goals(alloc, cubes, rows.values(), all)?;
-    let (names, _) = rows.parts(alloc)?;
+    let (names, relations) = rows.parts(alloc)?;
+    add_goals(alloc, cubes, &Rows::from_vec(relations), all)?;
     Ok(GoalNames {
         rows: names,
         disjuncts,

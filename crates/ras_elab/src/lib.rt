@@ -2,21 +2,10 @@
 //! fault. The layer above uses the contract of `elaborate`, in the words of `ras_names`.
 #![tactic(auto)]
 
-mod cases;
-mod declarations;
-mod declared;
 mod elaborating;
-mod fault;
-mod formulas;
 mod goals;
 pub mod law;
-mod name_set;
-mod named;
-mod scope;
 mod steps;
-mod table;
-mod terms;
-mod updates;
 
 pub use elaborating::{Spec, elaborate};
-pub use fault::SpecError;
+pub use ras_scope::fault::SpecError;

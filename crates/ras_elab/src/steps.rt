@@ -9,26 +9,26 @@ ghost use Rattle.ras_names.specs.FileChecks.{above_step, above_steps, step_check
 ghost use Rattle.ras_numbering.specs.Numbers.{number_in, declared_sort, declared_relation};
 ghost use Rattle.ras_numbering.specs.TermValues.{guard_value};
 ghost use Rattle.ras_numbering.specs.FileValues.{update_value, cases_value, step_value};
-ghost use Rattle.ras_elab.specs.Placing.{placed_name, placed_row, placed_param, placed_guard, placed_update, placed_each, placed_step, placed_file};
-ghost use Rattle.ras_elab.specs.Answering.{Answers};
-ghost use Rattle.ras_elab.specs.Agreeing.{Agrees, IsSortText, IsRelationText, IsOfSort};
-ghost use Rattle.ras_elab.specs.Seeing.{Sees, step_texts};
+ghost use Rattle.ras_scope.specs.Placing.{placed_name, placed_row, placed_param, placed_guard, placed_update, placed_each, placed_step, placed_file};
+ghost use Rattle.ras_scope.specs.Answering.{Answers};
+ghost use Rattle.ras_scope.specs.Agreeing.{Agrees, IsSortText, IsRelationText, IsOfSort};
+ghost use Rattle.ras_scope.specs.Seeing.{Sees, step_texts};
 ghost use Rattle.ras_elab.specs.Bodies.{IsOfRelation, body_checks};
 
-use crate::cases::{Cases, read_eachs};
-use crate::declared::{Declared, check_name};
-use crate::fault::SpecError;
-use crate::formulas::read_guard;
-use crate::name_set::NameSet;
-use crate::named::{Naming, read_named};
-use crate::scope::Scope;
-use crate::table::Table;
-use crate::updates::read_updates;
+use ras_declarations::named::{Naming, read_named};
 use ras_lexer::Text;
 use ras_logic::{List, Literal, RelId, Rows, SortId};
 use ras_names::StepNames;
+use ras_scope::declared::{Declared, check_name};
+use ras_scope::fault::SpecError;
+use ras_scope::name_set::NameSet;
+use ras_scope::scope::Scope;
+use ras_scope::table::Table;
 use ras_syntax as tree;
 use ras_system::{Transition, Update};
+use ras_terms::cases::{Cases, read_eachs};
+use ras_terms::formulas::read_guard;
+use ras_terms::updates::read_updates;
 use std::alloc::{AllocError, Global};
 
 /// The rows of a step or of an unsafe item, at most 8.
@@ -73,17 +73,6 @@ fn read_params(
         limit: 16,
     };
     read_named(alloc, &naming, params)
-}
-
-/// The rows of a list that has few.
-pub(crate) fn few_rows(alloc: Global, relations: &[RelId]) -> Result<Rows, AllocError>
-    ensures { IfOk result (λ rows. rows ≡ relations.now) }
-{
-    let mut rows = Rows::new(alloc);
-    for relation in relations {
-        rows.push(*relation)?;
-    }
-    Ok(rows)
 }
 
 /// What a step says behind its rows and data parameters.
@@ -133,11 +122,10 @@ fn join_step(
 {
     let (row_names, relations) = rows.parts(alloc)?;
     let (param_names, sorts) = params.parts(alloc)?;
-    let rows = few_rows(alloc, relations.as_slice())?;
     Ok(ReadStep {
         transition: Transition {
-            rows,
-            params: sorts,
+            rows: Rows::from_vec(relations),
+            params: List::from_vec(sorts),
             guard: body.guard,
             updates: body.updates,
             bulk: body.cases.bulk,

@@ -3,7 +3,7 @@ ghost use Rattle.ras_names.specs.Placed as placed;
 ghost use Rattle.ras_names.specs.Texts.{Denotes};
 ghost use Rattle.ras_names.specs.Faults.{IsFirstFault};
 ghost use Rattle.ras_lexer.specs.Pieces.{IsTokens};
-ghost use Rattle.ras_elab.specs.Placing.{placed_function};
+ghost use Rattle.ras_scope.specs.Placing.{placed_function};
 ghost use Rattle.ras_file.specs.FileFaults.{lexical_kind, cycle_of, IsNamesFault, IsErrorOf};
 
 use crate::fault::{FileError, FileFault, FileKind};

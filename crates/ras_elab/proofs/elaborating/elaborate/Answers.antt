@@ -1,6 +1,6 @@
 use Rattle.ras_syntax.specs.declared.tree.File as tree
 use Rattle.ras_numbering.specs.FileValues.{system_value}
-use Rattle.ras_elab.specs.Placing.{placed_file}
+use Rattle.ras_scope.specs.Placing.{placed_file}
 use Rattle.ras_elab.specs.Elaborating.{IsFaultOf, IsMemory}
 use Rattle.ras_elab.proofs.Denoted.{of_tree, handed_error, denoted, fault_of, memory_alone}
 use Rattle.ras_elab.proofs.elaborating.elaborate.Goals as goal

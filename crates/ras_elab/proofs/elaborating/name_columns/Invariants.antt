@@ -1,5 +1,5 @@
 use Rattle.std.proofs.Common.{◌≡◌, take}
-use Rattle.ras_elab.specs.Agreeing.{sorts_of_columns}
+use Rattle.ras_scope.specs.Agreeing.{sorts_of_columns}
 use Rattle.ras_elab.specs.Elaborating.{named_columns}
 use Rattle.ras_elab.proofs.elaborating.name_columns.Given as goal
 

@@ -3,10 +3,10 @@ use Rattle.ras_names.specs.Placed as placed
 use Rattle.ras_names.specs.Checks.{Check, for_each}
 use Rattle.ras_names.specs.FileChecks.{sort_checks, function_checks, constant_checks, variable_checks, relation_checks, step_checks, goal_checks, checks}
 use Rattle.ras_names.proofs.Passing.{Passes, pass_both}
-use Rattle.ras_elab.specs.Answering.{Faults}
-use Rattle.ras_elab.specs.Declaring.{declaration_checks}
-use Rattle.ras_elab.specs.Placing.{placed_file}
-use Rattle.ras_elab.proofs.Following.{handed, faults_stay, faults_follow}
+use Rattle.ras_scope.specs.Answering.{Faults}
+use Rattle.ras_declarations.specs.Declaring.{declaration_checks}
+use Rattle.ras_scope.specs.Placing.{placed_file}
+use Rattle.ras_scope.proofs.Following.{handed, faults_stay, faults_follow}
 use Rattle.ras_elab.proofs.elaborating.read_items.Goals as goal
 
 abbrev steps : placed.File → List Check
@@ -48,7 +48,7 @@ returns-in_err-goals-clause-checks c =
     (faults_follow (steps p) (goals p) e c.in_ok-steps.ensures.checks c.in_err-goals.ensures.checks)))
 
 pub read_steps-requires : goal.read_steps-requires
-read_steps-requires c = record { agrees = c.in_ok-declarations.ensures.agrees; shared = c.in_ok-declarations.ensures.shared }
+read_steps-requires c = record { agrees = c.in_ok-declarations.ensures.items.agrees; shared = c.in_ok-declarations.ensures.items.shared_names }
 
 pub read_goals-requires : goal.read_goals-requires
 read_goals-requires c = record { agrees = c.in_ok-steps.ensures.agrees; shared = c.in_ok-steps.ensures.shared }
@@ -60,7 +60,7 @@ returns c =
       checks = subst Passes (whole p) (pass_both (declaration_checks p) (steps p ++ goals p) c.in_ok-declarations.ensures.checks (pass_both (steps p) (goals p) c.in_ok-steps.ensures.checks c.in_ok-goals.ensures.checks));
       parts = record {
         agrees = c.in_ok-steps.ensures.agrees;
-        initial = c.in_ok-declarations.ensures.initial;
+        initial = c.in_ok-declarations.ensures.items.initials;
         transitions = c.in_ok-steps.ensures.transitions;
         cubes = c.in_ok-goals.ensures.cubes;
         steps = c.in_ok-steps.ensures.names;

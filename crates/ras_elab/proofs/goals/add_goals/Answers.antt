@@ -5,7 +5,7 @@ use Rattle.ras_logic.specs.declared.literal.Literal.{Literal}
 use Rattle.ras_logic.specs.declared.problem.Problem.{Problem}
 use Rattle.ras_logic.specs.Formulas.{HasNoParam}
 use Rattle.ras_elab.specs.Goals.{cube_of}
-use Rattle.ras_elab.proofs.ColumnParts.{head_all, tail_all}
+use Rattle.ras_declarations.proofs.ColumnParts.{head_all, tail_all}
 use Rattle.ras_elab.proofs.goals.add_goals.Goals as goal
 
 pub add_goal-requires : goal.add_goal-requires
@@ -14,7 +14,7 @@ add_goal-requires c =
 
 pub loop-literals-preserved : goal.loop-literals-preserved
 loop-literals-preserved c =
-    let cube = cube_of c.args.relations.now in
+    let cube = cube_of c.args.rows.now in
     let last : List Problem = cube c.in-Some.literals ∷ [] in
     record {
       cubes = c.in_ok-add_goal.ensures ∙ ap (λ (ps : List Problem). ps ++ last) c.loop-literals.invariant.cubes ∙ append_assoc c.args.cubes.now (map cube c.loop-literals.yielded) last

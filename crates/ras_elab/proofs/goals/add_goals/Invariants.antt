@@ -6,6 +6,6 @@ use Rattle.ras_elab.proofs.goals.add_goals.Given as goal
 
 abbrev pub invariant-loop-literals : goal.invariant-loop-literals
 invariant-loop-literals l = record {
-  cubes : l.cubes ≡ l.fn.cubes ++ map (cube_of l.relations) l.yielded;
+  cubes : l.cubes ≡ l.fn.cubes ++ map (cube_of l.rows) l.yielded;
   left : All (All HasNoParam) l.literals-iterator.rest.items;
 }

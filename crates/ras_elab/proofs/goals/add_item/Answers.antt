@@ -2,10 +2,10 @@ use Rattle.std.proofs.Common.{◌++◌, ℕ, List, length, map, ◌∙◌, ap, s
 use Rattle.ras_logic.specs.declared.problem.Problem.{Problem}
 use Rattle.ras_logic.specs.declared.ids.RelId.{RelId}
 use Rattle.ras_names.proofs.Passing.{Passes}
-use Rattle.ras_elab.specs.Answering.{Faults}
+use Rattle.ras_scope.specs.Answering.{Faults}
 use Rattle.ras_elab.specs.Goals.{cube_of, item_checks}
-use Rattle.ras_elab.specs.Placing.{placed_goal}
-use Rattle.ras_elab.proofs.Following.{handed}
+use Rattle.ras_scope.specs.Placing.{placed_goal}
+use Rattle.ras_scope.proofs.Following.{handed}
 use Rattle.ras_elab.proofs.goals.add_item.Goals as goal
 
 pub returns-in_err-item-clause-checks : goal.returns-in_err-item-clause-checks
@@ -27,6 +27,6 @@ returns c =
     record {
       checks = λ p a. subst (λ (n : ℕ). Passes (item_checks p shared n g)) c.len.ensures.count (c.in_ok-item.ensures.checks p a);
       cubes = λ p a. c.in_ok-add_goals.ensures
-          ∙ ap (λ (ps : List Problem). c.args.cubes.now ++ ps) (ap (λ (rs : List RelId). map (cube_of rs) item.disjuncts) c.values.ensures ∙ c.in_ok-item.ensures.values p a);
-      names = λ i. record { rows = (c.in_ok-names.ensures.0 ∙ c.in_ok-item.ensures.names) i; disjuncts = (c.len-disjuncts.ensures.count ∙ c.in_ok-item.ensures.count c.requires) i };
+          ∙ ap (λ (ps : List Problem). c.args.cubes.now ++ ps) (ap (λ (rs : List RelId). map (cube_of rs) item.disjuncts) (c.from_vec.ensures ∙ c.in_ok-names.ensures.values) ∙ c.in_ok-item.ensures.values p a);
+      names = λ i. record { rows = (c.in_ok-names.ensures.names ∙ c.in_ok-item.ensures.names) i; disjuncts = (c.len-disjuncts.ensures.count ∙ c.in_ok-item.ensures.count c.requires) i };
     }

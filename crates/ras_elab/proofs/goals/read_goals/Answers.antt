@@ -13,12 +13,12 @@ use Rattle.ras_names.specs.FileChecks.{above_step, goal_count, goal_checks}
 use Rattle.ras_names.proofs.Among.{map-map}
 use Rattle.ras_names.proofs.Passing.{Passes}
 use Rattle.ras_numbering.specs.FileValues.{goal_values}
-use Rattle.ras_elab.specs.Answering.{Faults}
+use Rattle.ras_scope.specs.Answering.{Faults}
 use Rattle.ras_elab.specs.Goals.{item_checks}
-use Rattle.ras_elab.specs.Placing.{placed_goal, placed_file}
-use Rattle.ras_elab.proofs.Following.{handed}
-use Rattle.ras_elab.proofs.Turns.{turn_within, turn_item, turns_end, turns_none, turn_passed, turn_failed, turns_passed}
-use Rattle.ras_elab.proofs.NewNames.{items_more, keys_more, whole, pushed_as}
+use Rattle.ras_scope.specs.Placing.{placed_goal, placed_file}
+use Rattle.ras_scope.proofs.Following.{handed}
+use Rattle.ras_declarations.proofs.Turns.{turn_within, turn_item, turns_end, turns_none, turn_passed, turn_failed, turns_passed}
+use Rattle.ras_declarations.proofs.NewNames.{items_more, keys_more, whole, pushed_as}
 use Rattle.ras_elab.proofs.GoalParts.{goals_count}
 use Rattle.ras_elab.proofs.goals.read_goals.Goals as goal
 

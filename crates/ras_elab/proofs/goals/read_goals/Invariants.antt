@@ -5,8 +5,8 @@ use Rattle.ras_names.specs.Unplaced.{goal_of}
 use Rattle.ras_names.specs.FileNames.{names_of_goal}
 use Rattle.ras_names.specs.FileChecks.{goal_checks}
 use Rattle.ras_numbering.specs.FileValues.{goal_values}
-use Rattle.ras_elab.specs.Placing.{placed_goal, placed_file}
-use Rattle.ras_elab.proofs.Following.{Passed}
+use Rattle.ras_scope.specs.Placing.{placed_goal, placed_file}
+use Rattle.ras_scope.proofs.Following.{Passed}
 use Rattle.ras_elab.proofs.goals.read_goals.Given as goal
 
 abbrev pub invariant-loop-goal : goal.invariant-loop-goal

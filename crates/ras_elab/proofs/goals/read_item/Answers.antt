@@ -15,11 +15,11 @@ use Rattle.ras_names.proofs.Passing.{Passes, pass_both}
 use Rattle.ras_numbering.specs.Numbers.{declared_relation}
 use Rattle.ras_numbering.specs.TermValues.{conjunction_value}
 use Rattle.ras_numbering.specs.FileValues.{goal_names}
-use Rattle.ras_elab.specs.Answering.{Faults}
+use Rattle.ras_scope.specs.Answering.{Faults}
 use Rattle.ras_elab.specs.Bodies.{IsOfRelation}
 use Rattle.ras_elab.specs.Goals.{cube_of, item_checks}
-use Rattle.ras_elab.specs.Placing.{placed_row, placed_goal}
-use Rattle.ras_elab.proofs.Following.{handed, faults_stay, faults_follow}
+use Rattle.ras_scope.specs.Placing.{placed_row, placed_goal}
+use Rattle.ras_scope.proofs.Following.{handed, faults_stay, faults_follow}
 use Rattle.ras_elab.proofs.StepParts.{sees_step}
 use Rattle.ras_elab.proofs.GoalParts.{few_disjuncts, guard_no_param}
 use Rattle.ras_elab.proofs.goals.read_item.Goals as goal

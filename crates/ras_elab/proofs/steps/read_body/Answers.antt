@@ -9,11 +9,11 @@ use Rattle.ras_names.proofs.Passing.{Passes, pass_both}
 use Rattle.ras_names.specs.Placed as placed
 use Rattle.ras_syntax.specs.Grammar.{Text}
 use Rattle.ras_numbering.specs.FileValues.{update_value, cases_value}
-use Rattle.ras_elab.specs.Answering.{Faults}
+use Rattle.ras_scope.specs.Answering.{Faults}
 use Rattle.ras_elab.specs.Bodies.{body_checks}
-use Rattle.ras_elab.specs.Seeing.{step_texts}
-use Rattle.ras_elab.specs.Placing.{placed_update, placed_each, placed_step}
-use Rattle.ras_elab.proofs.Following.{handed, faults_stay, faults_follow}
+use Rattle.ras_scope.specs.Seeing.{step_texts}
+use Rattle.ras_scope.specs.Placing.{placed_update, placed_each, placed_step}
+use Rattle.ras_scope.proofs.Following.{handed, faults_stay, faults_follow}
 use Rattle.ras_elab.proofs.steps.read_body.Goals as goal
 
 abbrev guards : checks.Scope → placed.Step → List Check

@@ -7,11 +7,11 @@ use Rattle.ras_names.specs.StepChecks.{row_checks, param_checks, inside_checks}
 use Rattle.ras_names.proofs.Passing.{Passes}
 use Rattle.ras_numbering.specs.Numbers.{declared_sort, declared_relation}
 use Rattle.ras_numbering.specs.FileValues.{step_names}
-use Rattle.ras_elab.specs.Answering.{Faults}
-use Rattle.ras_elab.specs.Agreeing.{IsOfSort}
+use Rattle.ras_scope.specs.Answering.{Faults}
+use Rattle.ras_scope.specs.Agreeing.{IsOfSort}
 use Rattle.ras_elab.specs.Bodies.{IsOfRelation}
-use Rattle.ras_elab.specs.Placing.{placed_row, placed_param, placed_step}
-use Rattle.ras_elab.proofs.Following.{handed}
+use Rattle.ras_scope.specs.Placing.{placed_row, placed_param, placed_step}
+use Rattle.ras_scope.proofs.Following.{handed}
 use Rattle.ras_elab.proofs.StepParts.{sees_step, step_names_are, row_part, param_part, rows_fail, params_fail, body_fails, inside_passes}
 use Rattle.ras_elab.proofs.steps.read_inside.Goals as goal
 

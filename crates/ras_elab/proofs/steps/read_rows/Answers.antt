@@ -5,9 +5,9 @@ use Rattle.ras_names.specs.Placed.{Declared as Item}
 use Rattle.ras_names.specs.Checks.{for_each}
 use Rattle.ras_names.specs.StepChecks.{row_checks}
 use Rattle.ras_numbering.specs.Numbers.{number_in, declared_relation}
-use Rattle.ras_elab.specs.Naming.{named_checks, IsOneOf}
-use Rattle.ras_elab.specs.Placing.{placed_row}
-use Rattle.ras_elab.proofs.Answered.{answers_same, if_ok-to}
+use Rattle.ras_declarations.specs.Naming.{named_checks, IsOneOf}
+use Rattle.ras_scope.specs.Placing.{placed_row}
+use Rattle.ras_declarations.proofs.Answered.{answers_same, if_ok-to}
 use Rattle.ras_elab.proofs.steps.read_rows.Goals as goal
 
 pub returns : goal.returns

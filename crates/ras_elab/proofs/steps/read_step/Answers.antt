@@ -2,10 +2,10 @@ use Rattle.std.proofs.Common.{◌∷◌, ◌++◌, [], List, subst}
 use Rattle.ras_syntax.specs.Grammar.{Text}
 use Rattle.ras_names.specs.Checks.{declared_checks}
 use Rattle.ras_names.specs.StepChecks.{inside_checks}
-use Rattle.ras_elab.specs.Answering.{Answers}
-use Rattle.ras_elab.specs.Placing.{placed_step}
-use Rattle.ras_elab.proofs.Following.{handed, faults_stay, answers_follow}
-use Rattle.ras_elab.proofs.Answered.{on_ok}
+use Rattle.ras_scope.specs.Answering.{Answers}
+use Rattle.ras_scope.specs.Placing.{placed_step}
+use Rattle.ras_scope.proofs.Following.{handed, faults_stay, answers_follow}
+use Rattle.ras_declarations.proofs.Answered.{on_ok}
 use Rattle.ras_elab.proofs.SharedNames.{agrees_shared}
 use Rattle.ras_elab.proofs.steps.read_step.Goals as goal
 

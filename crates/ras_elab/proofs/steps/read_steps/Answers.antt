@@ -12,13 +12,13 @@ use Rattle.ras_names.specs.FileChecks.{above_steps, above_step, step_checks}
 use Rattle.ras_names.proofs.Among.{map-map}
 use Rattle.ras_names.proofs.Passing.{Passes}
 use Rattle.ras_numbering.specs.FileValues.{step_value}
-use Rattle.ras_elab.specs.declared.declared.Declared.{Declared}
-use Rattle.ras_elab.specs.Answering.{Faults}
-use Rattle.ras_elab.specs.Agreeing.{Agrees}
-use Rattle.ras_elab.specs.Placing.{placed_step, placed_file}
-use Rattle.ras_elab.proofs.Following.{handed}
-use Rattle.ras_elab.proofs.Turns.{turn_within, turn_item, turns_end, turns_none, turn_passed, turn_failed, turns_passed}
-use Rattle.ras_elab.proofs.NewNames.{keys_more, taken, whole, pushed_as, pushed_behind}
+use Rattle.ras_scope.specs.declared.declared.Declared.{Declared}
+use Rattle.ras_scope.specs.Answering.{Faults}
+use Rattle.ras_scope.specs.Agreeing.{Agrees}
+use Rattle.ras_scope.specs.Placing.{placed_step, placed_file}
+use Rattle.ras_scope.proofs.Following.{handed}
+use Rattle.ras_declarations.proofs.Turns.{turn_within, turn_item, turns_end, turns_none, turn_passed, turn_failed, turns_passed}
+use Rattle.ras_declarations.proofs.NewNames.{keys_more, taken, whole, pushed_as, pushed_behind}
 use Rattle.ras_elab.proofs.SharedNames.{agrees_shared}
 use Rattle.ras_elab.proofs.steps.read_steps.Goals as goal
 

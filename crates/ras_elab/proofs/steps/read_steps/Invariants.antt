@@ -4,9 +4,9 @@ use Rattle.ras_names.specs.Unplaced.{step_of}
 use Rattle.ras_names.specs.FileNames.{names_of_step}
 use Rattle.ras_names.specs.FileChecks.{above_steps, step_checks}
 use Rattle.ras_numbering.specs.FileValues.{step_value}
-use Rattle.ras_elab.specs.Agreeing.{Agrees}
-use Rattle.ras_elab.specs.Placing.{placed_step, placed_file}
-use Rattle.ras_elab.proofs.Following.{Passed}
+use Rattle.ras_scope.specs.Agreeing.{Agrees}
+use Rattle.ras_scope.specs.Placing.{placed_step, placed_file}
+use Rattle.ras_scope.proofs.Following.{Passed}
 use Rattle.ras_elab.proofs.steps.read_steps.Given as goal
 
 abbrev pub invariant-loop-step : goal.invariant-loop-step

@@ -13,7 +13,7 @@ use Rattle.ras_names.specs.Placed as placed
 use Rattle.ras_names.specs.PlacedTokens.{IsFileOf}
 use Rattle.ras_names.specs.FileChecks.{first_fault}
 use Rattle.ras_names.specs.Faults.{IsFirstFault}
-use Rattle.ras_elab.specs.Placing.{placed_file, placed_function}
+use Rattle.ras_scope.specs.Placing.{placed_file, placed_function}
 use Rattle.ras_file.specs.declared.fault.FileKind.{FileKind}
 use Rattle.ras_file.specs.FileFaults.{IsNamesKind}
 use Rattle.ras_file.proofs.Cycles.{cycle_within}

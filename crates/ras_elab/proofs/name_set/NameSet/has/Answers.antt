@@ -1,6 +1,0 @@
-use Rattle.std.proofs.Common.{◌∙◌}
-use Rattle.ras_elab.proofs.SameTexts.{same_among}
-use Rattle.ras_elab.proofs.name_set.NameSet.has.Goals as goal
-
-pub returns : goal.returns
-returns c = c.contains.ensures ∙ same_among c.self.inside.names.keys c.args.self.now c.args.name.now c.self.view_is

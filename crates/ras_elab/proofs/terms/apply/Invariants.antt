@@ -1,5 +1,0 @@
-use Rattle.ras_elab.proofs.InsideOut.{AreApplied}
-use Rattle.ras_elab.proofs.terms.apply.Given as goal
-
-abbrev pub invariant-loop-i : goal.invariant-loop-i
-invariant-loop-i l = AreApplied l.fn.start l.called l.i l.path l.sort

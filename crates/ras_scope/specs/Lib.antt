@@ -1,0 +1,8 @@
+pub mod Placing
+pub mod Finding
+pub mod Columns
+pub mod Answering
+pub mod Scopes
+pub mod Agreeing
+pub mod Seeing
+pub mod Sorting

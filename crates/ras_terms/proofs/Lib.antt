@@ -1,0 +1,9 @@
+pub mod InOrder
+pub mod SameSorts
+pub mod Applying
+pub mod InsideOut
+pub mod ReadTerms
+pub mod ReadLiterals
+pub mod ReadAssigned
+pub mod ReadCases
+pub mod ReadEachs

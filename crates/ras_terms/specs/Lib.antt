@@ -1,0 +1,5 @@
+pub mod Meanings
+pub mod Calling
+pub mod Literals
+pub mod Assigning
+pub mod Cases
