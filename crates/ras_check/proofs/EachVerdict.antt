@@ -23,10 +23,8 @@ use Rattle.ras_logic.specs.Formulas.{LiteralFits, Fits, IsCube, negated, replace
 use Rattle.ras_logic.specs.Clashes.{FactsClash}
 use Rattle.ras_logic.specs.Trees.{AreTrees, IsWhole}
 use Rattle.ras_logic.specs.Refutations.{AreRowsOf, chosen_row, children_facts, CloseAll}
-use Rattle.ras_system.specs.declared.transition.Transition.{Transition}
 use Rattle.ras_system.specs.Systems.{SystemParts, IsSystem}
 use Rattle.ras_system.specs.Obligations.{Obligation, obligations}
-use Rattle.ras_system.specs.Plain.{IsPlain, IsPlainTransition}
 use Rattle.ras_system.specs.Evidence.{ClosesObligation, IsGoodSafe}
 use Rattle.ras_steps.specs.declared.run.Run.{Run}
 use Rattle.ras_refute.specs.declared.tree_fault.TreeFault.{TreeFault}
@@ -38,12 +36,12 @@ use Rattle.ras_violation.specs.declared.violation_fault.ViolationFault.{Violatio
 use Rattle.ras_violation.specs.Violations.{IsGoodViolation}
 use Rattle.ras_violation.specs.ViolationFaults.{IsViolationFault}
 use Rattle.ras_violation.proofs.Decisions.{Decided, by_both, decided_both, decided_below, decided_all}
-use Rattle.ras_check.specs.declared.safe_fault.SafeFault.{SafeFault}
-use Rattle.ras_check.specs.declared.safe_fault.SafeFault.TheVariants as fault
+use Rattle.ras_safety.specs.declared.safe_fault.SafeFault.{SafeFault}
+use Rattle.ras_safety.specs.declared.safe_fault.SafeFault.TheVariants as fault
 use Rattle.ras_check.specs.declared.verdict.Invalid.TheVariants as invalid
 use Rattle.ras_check.specs.declared.verdict.Verdict.{Verdict}
 use Rattle.ras_check.specs.declared.verdict.Verdict.TheVariants as verdict
-use Rattle.ras_check.specs.Faults.{IsFirstMisfit, IsFirstOpen, IsSafeFault}
+use Rattle.ras_safety.specs.Faults.{IsFirstMisfit, IsFirstOpen, IsSafeFault}
 use Rattle.ras_check.specs.Judging.{HasWholeTrees, HasCubes, AnswersCheck}
 use Rattle.ras_check.proofs.Deciding.{decided_clash}
 
@@ -53,10 +51,6 @@ decided_lt a b = go (cases_lt a b)
     go : (a < b) ⊎ (b ≤ a) → Decided (a < b)
     go (inl lt) = inl lt
     go (inr le) = inr (λ lt. omega (arith, lt, le))
-
-decided_empty : {X : Type 0} (xs : List X) → Decided (xs ≡ [])
-decided_empty [] = inl refl
-decided_empty {X} (x ∷ xs) = inr (λ e. let l : length (x ∷ xs) ≡ 0 = ap (λ (zs : List X). length zs) e in omega (arith, l))
 
 -- the rows of a formula
 same_relation : (r s : RelId) → Decided (r ≡ s)
@@ -112,15 +106,6 @@ module _ (shape : ShapeParts) where
       (decided_both (decided_all (IsRelation shape) (λ r. decided_lt r.n (length shape.relations)) p.rows (record { n = 0 }))
       (decided_both (decided_all (IsSort shape.schema.sorts) (λ s. decided_lt s.n shape.schema.sorts) p.params (record { n = 0 }))
       (decided_all (LiteralFits shape p.rows p.params) (decided_literal p.rows p.params) p.literals (Equal (base_term (Param 0)) (base_term (Param 0)) true))))
-
-decided_plain_transition : (t : Transition) → Decided (IsPlainTransition t)
-decided_plain_transition t =
-    by_both (λ h. record { rows = h.0; params = h.1.0; bulk = h.1.1 }) (λ h. (h.rows, (h.params, h.bulk))) (decided_both (decided_empty t.rows) (decided_both (decided_empty t.params) (decided_empty t.bulk)))
-
-decided_plain : (system : SystemParts) → Decided (IsPlain system)
-decided_plain system =
-    by_both (λ h. record { relations = h.0; transitions = h.1 }) (λ h. (h.relations, h.transitions))
-    (decided_both (decided_empty system.shape.relations) (decided_all IsPlainTransition decided_plain_transition system.transitions (record { rows = []; params = []; guard = []; updates = []; bulk = [] })))
 
 module _ (schema : SchemaParts) (is : IsSchema schema) (formulas : List Problem) (rows : List RelId) where
   -- the trees close, or have a first fault
@@ -227,15 +212,11 @@ module _ (violation : (system : SystemParts) (d : RawDb) (run : Run) → IsGoodV
   Has e = (v : Verdict) × AnswersCheck system e v
 
   pub each_verdict : (e : Evidence) → HasWholeTrees e → HasCubes e → Has e
-  each_verdict (Safe formulas ts) whole cubes = plain (decided_plain system)
+  each_verdict (Safe formulas ts) whole cubes = go (safe system is.shape.schema formulas ts cubes whole)
     where
-      good : IsPlain system → IsGoodSafe system formulas ts ⊎ ((f : SafeFault) × IsSafeFault system formulas ts f) → Has (Safe formulas ts)
-      good plain (inl all) = (verdict.Valid, (plain, all))
-      good plain (inr f) = (verdict.Invalid (invalid.Safe f.0), (plain, f.1))
-
-      plain : Decided (IsPlain system) → Has (Safe formulas ts)
-      plain (inr none) = (verdict.Unbuilt, none)
-      plain (inl yes_plain) = good yes_plain (safe system is.shape.schema formulas ts cubes whole)
+      go : IsGoodSafe system formulas ts ⊎ ((f : SafeFault) × IsSafeFault system formulas ts f) → Has (Safe formulas ts)
+      go (inl good) = (verdict.Valid, good)
+      go (inr f) = (verdict.Invalid (invalid.Safe f.0), f.1)
   each_verdict (Unsafe d run) whole cubes = go (violation system d run)
     where
       go : IsGoodViolation system d run ⊎ ((f : ViolationFault) × IsViolationFault system d run f) → Has (Unsafe d run)

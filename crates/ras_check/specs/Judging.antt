@@ -3,7 +3,6 @@ use Rattle.std.specs.Prelude.{All, ⊤}
 use Rattle.ras_logic.specs.Formulas.{IsCube}
 use Rattle.ras_logic.specs.Trees.{IsWhole}
 use Rattle.ras_system.specs.Systems.{SystemParts}
-use Rattle.ras_system.specs.Plain.{IsPlain}
 use Rattle.ras_system.specs.Evidence.{IsGoodSafe}
 use Rattle.ras_evidence.specs.declared.value.Evidence.{Evidence}
 use Rattle.ras_evidence.specs.declared.value.Evidence.TheVariants.{Safe, Unsafe, Unknown}
@@ -13,7 +12,7 @@ use Rattle.ras_check.specs.declared.verdict.Invalid.{Invalid}
 use Rattle.ras_check.specs.declared.verdict.Invalid.TheVariants as invalid
 use Rattle.ras_check.specs.declared.verdict.Verdict.{Verdict}
 use Rattle.ras_check.specs.declared.verdict.Verdict.TheVariants as verdict
-use Rattle.ras_check.specs.Faults.{IsSafeFault}
+use Rattle.ras_safety.specs.Faults.{IsSafeFault}
 
 -- the nodes of each tree are a whole tree
 abbrev pub HasWholeTrees : Evidence → Type 0
@@ -27,21 +26,21 @@ HasCubes (Safe formulas trees) = All IsCube formulas
 HasCubes (Unsafe db run) = ⊤
 HasCubes (Unknown entries spill) = ⊤
 
--- good, and of a kind that is judged: an evidence of safety of a system without relations and data parameters, or a violation
+-- good, and of a kind that is judged: an evidence of safety, or a violation
 abbrev pub IsFoundGood : SystemParts → Evidence → Type 0
-IsFoundGood system (Safe formulas trees) = IsPlain system × IsGoodSafe system formulas trees
+IsFoundGood system (Safe formulas trees) = IsGoodSafe system formulas trees
 IsFoundGood system (Unsafe db run) = IsGoodViolation system db run
 IsFoundGood system (Unknown entries spill) = ⊥
 
 -- what is wrong with an evidence first
 abbrev pub IsInvalid : SystemParts → Evidence → Invalid → Type 0
-IsInvalid system (Safe formulas trees) (invalid.Safe fault) = IsPlain system × IsSafeFault system formulas trees fault
+IsInvalid system (Safe formulas trees) (invalid.Safe fault) = IsSafeFault system formulas trees fault
 IsInvalid system (Unsafe db run) (invalid.Violation fault) = IsViolationFault system db run fault
 IsInvalid system _ _ = ⊥
 
--- not judged yet: an evidence of safety of a system with relations or data parameters, or one of a spent budget
+-- not judged yet: an evidence of a spent budget
 abbrev pub IsUnbuilt : SystemParts → Evidence → Type 0
-IsUnbuilt system (Safe formulas trees) = ¬ IsPlain system
+IsUnbuilt system (Safe formulas trees) = ⊥
 IsUnbuilt system (Unsafe db run) = ⊥
 IsUnbuilt system (Unknown entries spill) = ⊤
 

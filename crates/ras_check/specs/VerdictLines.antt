@@ -7,8 +7,8 @@ use Rattle.ras_refute.specs.declared.tree_fault.TreeKind.TheVariants as kind
 use Rattle.ras_refute.specs.declared.tree_fault.TreeFault.{TreeFault}
 use Rattle.ras_text.specs.Pieces.{word}
 use Rattle.ras_violation.specs.InvalidLines as violation
-use Rattle.ras_check.specs.declared.safe_fault.SafeFault.{SafeFault}
-use Rattle.ras_check.specs.declared.safe_fault.SafeFault.TheVariants as fault
+use Rattle.ras_safety.specs.declared.safe_fault.SafeFault.{SafeFault}
+use Rattle.ras_safety.specs.declared.safe_fault.SafeFault.TheVariants as fault
 use Rattle.ras_check.specs.declared.verdict.Invalid.{Invalid}
 use Rattle.ras_check.specs.declared.verdict.Invalid.TheVariants as invalid
 

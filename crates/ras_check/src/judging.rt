@@ -3,12 +3,10 @@ ghost use Rattle.ras_logic.specs.Trees.{IsWhole};
 ghost use Rattle.ras_evidence.specs.declared.value.Evidence.TheVariants.{Safe, Unsafe};
 ghost use Rattle.ras_check.specs.Judging.{HasWholeTrees, AnswersCheck};
 
-use crate::plain::is_plain;
-use crate::safe::check_safe;
-use crate::safe_fault::CheckError;
 use crate::verdict::{Invalid, Verdict};
 use ras_evidence::Evidence;
 use ras_logic::{Cube, List, RawDb, Shared, Tree};
+use ras_safety::{SafetyError, check_safe};
 use ras_steps::Run;
 use ras_system::System;
 use ras_violation::{ViolationError, check_violation};
@@ -23,13 +21,10 @@ fn judged_safe(
     requires { All IsWhole trees.now }
     ensures { IfOk result (AnswersCheck system.now (Safe formulas.now trees.now)) }
 {
-    if !is_plain(system) {
-        return Ok(Verdict::Unbuilt);
-    }
     match check_safe(alloc, system, formulas.as_slice(), trees.as_slice()) {
         Ok(()) => Ok(Verdict::Valid),
-        Err(CheckError::Fault(fault)) => Ok(Verdict::Invalid(Invalid::Safe(fault))),
-        Err(CheckError::Memory(error)) => Err(error),
+        Err(SafetyError::Fault(fault)) => Ok(Verdict::Invalid(Invalid::Safe(fault))),
+        Err(SafetyError::Memory(error)) => Err(error),
     }
 }
 
@@ -48,8 +43,8 @@ fn judged_unsafe(
     }
 }
 
-/// Whether an evidence is good for a system, or what is wrong with it first. There is no judge yet of an evidence of safety
-/// for a system with relations or data parameters, and of one of a spent budget. Each tree is whole.
+/// Whether an evidence is good for a system, or what is wrong with it first. There is no judge yet of one of a spent budget. Each
+/// tree is whole.
 pub fn check(alloc: Global, system: &System, evidence: &Evidence) -> Result<Verdict, AllocError>
     requires { HasWholeTrees evidence.now }
     ensures { IfOk result (AnswersCheck system.now evidence.now) }

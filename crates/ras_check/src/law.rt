@@ -3,35 +3,13 @@ ghost use Rattle.ras_logic.specs.declared.problem.Problem.{Problem};
 ghost use Rattle.ras_logic.specs.declared.raw_db.RawDb.{RawDb};
 ghost use Rattle.ras_logic.specs.declared.tree.Tree.{Tree};
 ghost use Rattle.ras_system.specs.Systems.{SystemParts, IsSystem};
-ghost use Rattle.ras_system.specs.Evidence.{IsGoodSafe};
 ghost use Rattle.ras_system.specs.Runs.{IsSafe};
 ghost use Rattle.ras_steps.specs.declared.run.Run.{Run};
 ghost use Rattle.ras_evidence.specs.declared.value.Evidence.{Evidence};
 ghost use Rattle.ras_evidence.specs.declared.value.Evidence.TheVariants.{Safe, Unsafe};
 ghost use Rattle.ras_evidence.specs.EvidenceTexts.{IsEvidenceText};
-ghost use Rattle.ras_check.specs.declared.safe_fault.SafeFault.{SafeFault};
 ghost use Rattle.ras_check.specs.declared.verdict.Verdict.{Verdict};
-ghost use Rattle.ras_check.specs.Faults.{IsSafeFault};
 ghost use Rattle.ras_check.specs.Judging.{HasWholeTrees, HasCubes, IsFoundGood, AnswersCheck};
-
-use ras_refute::a_fault_is_no_closing;
-
-/// An evidence of safety with a fault is not good.
-pub fn a_fault_is_not_good()
-    ensures { (system : SystemParts) (formulas : List Problem) (trees : List Tree) (fault : SafeFault)
-        → IsSafeFault system formulas trees fault → ¬ IsGoodSafe system formulas trees }
-{
-    a_fault_is_no_closing();
-}
-
-/// No two faults of an evidence of safety are the first.
-pub fn the_first_fault_is_one()
-    ensures { (system : SystemParts) (formulas : List Problem) (trees : List Tree) (fault other : SafeFault)
-        → IsSafeFault system formulas trees fault → IsSafeFault system formulas trees other → fault ≡ other }
-{
-    a_fault_is_no_closing();
-    ras_refute::the_first_fault_is_one();
-}
 
 /// An evidence that is read from a text has whole trees, as the judge asks, and its formulas are cubes.
 pub fn a_text_has_whole_trees()
@@ -44,8 +22,8 @@ pub fn an_evidence_is_judged_in_one_way()
     ensures { (system : SystemParts) (evidence : Evidence) (verdict other : Verdict)
         → AnswersCheck system evidence verdict → AnswersCheck system evidence other → verdict ≡ other }
 {
-    a_fault_is_not_good();
-    the_first_fault_is_one();
+    ras_safety::a_fault_is_not_good();
+    ras_safety::the_first_fault_is_one();
     ras_violation::a_fault_is_no_violation();
     ras_violation::the_first_fault_is_one();
 }
@@ -63,7 +41,7 @@ pub fn a_good_evidence_of_safety_suffices()
     ensures { (system : SystemParts) (formulas : List Problem) (trees : List Tree) → IsSystem system
         → IsFoundGood system (Safe formulas trees) → IsSafe system }
 {
-    ras_system::a_good_evidence_suffices();
+    ras_backwards::a_good_evidence_suffices();
 }
 
 /// A system with an evidence of a violation that is judged good is not safe.

@@ -3,24 +3,15 @@
 //! `invalid_line`.
 #![tactic(auto)]
 
-mod counting;
 mod judging;
 mod law;
 mod lines;
-mod plain;
-mod premises;
-mod replacing;
-mod safe;
-mod safe_fault;
 mod verdict;
 
 pub use judging::check;
 pub use law::{
-    a_fault_is_not_good, a_good_evidence_of_a_violation_suffices,
-    a_good_evidence_of_safety_suffices, a_text_has_whole_trees, an_evidence_is_judged_in_one_way,
-    each_evidence_has_a_verdict, the_first_fault_is_one,
+    a_good_evidence_of_a_violation_suffices, a_good_evidence_of_safety_suffices,
+    a_text_has_whole_trees, an_evidence_is_judged_in_one_way, each_evidence_has_a_verdict,
 };
 pub use lines::{invalid_line, valid_line};
-pub use safe::check_safe;
-pub use safe_fault::{CheckError, SafeFault};
 pub use verdict::{Invalid, Verdict};

@@ -1,10 +1,10 @@
 ghost use Rattle.std.specs.Prelude.{◌≡◌, ◌++◌, IfOk, OnOk};
 ghost use Rattle.ras_check.specs.VerdictLines.{valid_text, tree_kind as the_kind, formula_text, node_text, obligation_text, safe_text, invalid_text};
 
-use crate::safe_fault::SafeFault;
 use crate::verdict::Invalid;
 use ras_evidence::Evidence;
 use ras_refute::{TreeFault, TreeKind};
+use ras_safety::SafeFault;
 use ras_text::{put, put_word};
 use std::alloc::{AllocError, Global};
 

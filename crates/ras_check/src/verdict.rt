@@ -1,4 +1,4 @@
-use crate::safe_fault::SafeFault;
+use ras_safety::SafeFault;
 use ras_violation::ViolationFault;
 use thiserror::Error;
 

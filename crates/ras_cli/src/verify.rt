@@ -51,7 +51,7 @@ fn outcome<'a, H: Shelf>(
 /// | 30 | `REFUSED file AT P KIND` | where the specification denotes no system: its first fault |
 /// | 30 | `REFUSED bundle LINE N KIND` | where the system part of the bundle denotes none: the line of its first fault |
 /// | 31 | `REFUSED evidence LINE N KIND` | where no text of an evidence stands there: the line of its first fault |
-/// | 31 | `REFUSED evidence LINE N UNBUILT` | of `check` where such an evidence is not judged yet |
+/// | 31 | `REFUSED evidence LINE N UNBUILT` | of `check` where the evidence is one of a spent budget, which is not judged yet |
 /// | 31 | `REFUSED evidence LINE 1 NO_RUN` | of `replay` where the evidence is none of a violation |
 /// | 31 | an `INVALID` line | where the evidence is not good: its first fault |
 /// | 32 | `REFUSED long NAME` | where an evidence or a bundle is longer than the longest `Vec<u8>`, or a specification than 1,048,576 bytes |

@@ -1,5 +1,0 @@
-use Rattle.std.proofs.Common.{arith}
-use Rattle.ras_check.proofs.premises.initial_literal.Goals as goal
-
-pub initial_of-requires : goal.initial_of-requires
-initial_of-requires c = omega (arith, c.known.ensures.system.initial_for_each)

@@ -1,0 +1,3 @@
+pub mod Numbered
+mod Parts
+pub mod StartFits
