@@ -31,15 +31,15 @@ value-bare d v params t free = ap (image_along d t.path) (base t.base free)
     base (Undef s) free = refl
     base (Param p) free = absurd free
 
-holds-bare : (d : RawDb) (v : Values) (params : List ℕ) (l : Literal) → HasNoParam l → holds d (with_params v params) l ≡ holds d v l
+pub holds-bare : (d : RawDb) (v : Values) (params : List ℕ) (l : Literal) → HasNoParam l → holds d (with_params v params) l ≡ holds d v l
 holds-bare d v params (Equal left right true) free = rw (value-bare d v params left free.0, value-bare d v params right free.1)
 holds-bare d v params (Equal left right false) free = rw (value-bare d v params left free.0, value-bare d v params right free.1)
 
 -- the literals of a cube that hold under some values of data parameters hold under others
-literals-bare : (d : RawDb) (v : Values) (params : List ℕ) (p : Problem) → IsCube p → AllHold d (with_params v params) p.literals → AllHold d v p.literals
+pub literals-bare : (d : RawDb) (v : Values) (params : List ℕ) (p : Problem) → IsCube p → AllHold d (with_params v params) p.literals → AllHold d v p.literals
 literals-bare d v params p cube hold k l lt = subst (λ (b : Bool). IsTrue b) (holds-bare d v params (get_or p.literals k l) (cube.unnamed k l lt)) (hold k l lt)
 
-number-of : {X : Type 0} (P : X → Type 0) (xs : List X) (a : Any P xs) → slice_get xs a.0 ≡ Some a.1
+pub number-of : {X : Type 0} (P : X → Type 0) (xs : List X) (a : Any P xs) → slice_get xs a.0 ≡ Some a.1
 number-of P xs a = slice_get-get_or xs a.0 a.1 a.2 ∙ ap Some a.3
 
 -- a cube of the list that is satisfied in a larger database is satisfied in this one, under values of this one

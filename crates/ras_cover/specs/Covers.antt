@@ -1,11 +1,13 @@
 -- What a cover of a problem is: cubes without data parameters that say of the rest just what the problem says.
-use Rattle.std.specs.Prelude.{◌≡◌, ℕ, List, [], All, Any}
+use Rattle.std.specs.Prelude.{◌≡◌, ℕ, List, [], All, Any, slice_get, Some}
+use Rattle.ras_logic.specs.declared.literal.Literal.{Literal}
 use Rattle.ras_logic.specs.declared.problem.Problem.{Problem}
 use Rattle.ras_logic.specs.declared.raw_db.RawDb.{RawDb}
 use Rattle.ras_logic.specs.declared.values.Values.{Values}
 use Rattle.ras_logic.specs.Shapes.{ShapeParts}
 use Rattle.ras_logic.specs.Databases.{IsDatabase, Extends}
 use Rattle.ras_logic.specs.Formulas.{Fits, IsCube}
+use Rattle.ras_logic.specs.Clashes.{FactsClash}
 use Rattle.ras_logic.specs.Truth.{Satisfies}
 
 -- the values with these of the data parameters
@@ -19,6 +21,15 @@ bare v = with_params v []
 -- the values satisfy one of the problems
 abbrev pub SatisfiesAny : ShapeParts → RawDb → Values → List Problem → Type 0
 SatisfiesAny shape d v problems = Any (Satisfies shape d v) problems
+
+-- no literal is there twice
+abbrev pub IsOnce : List Literal → Type 0
+IsOnce literals = (j k : ℕ) (l : Literal) → slice_get literals j ≡ Some l → slice_get literals k ≡ Some l → j ≡ k
+
+-- cubes that do not clash, and have no literal twice
+pub record AreTidy (shape : ShapeParts) (cubes : List Problem) : Type 0 where
+  pub no_clash : All (λ (c : Problem). FactsClash shape.schema c.literals → ⊥) cubes
+  pub once : All (λ (c : Problem). IsOnce c.literals) cubes
 
 -- cubes that fit, with the problem's rows
 pub record AreCubesOf (shape : ShapeParts) (p : Problem) (cubes : List Problem) : Type 0 where
@@ -43,6 +54,14 @@ pub record HasExtension (shape : ShapeParts) (p : Problem) (d : RawDb) (v : Valu
   pub database : IsDatabase shape.schema larger
   pub extends : Extends larger d
   pub satisfied : Satisfies shape larger (with_params v params) p
+
+-- a database that extends the smaller one, and values that satisfy the problem and agree on variables and rows
+pub record IsExtension (shape : ShapeParts) (p : Problem) (smaller : RawDb) (given : Values) (larger : RawDb) (v : Values) : Type 0 where
+  pub database : IsDatabase shape.schema larger
+  pub extends : Extends larger smaller
+  pub vars : v.vars ≡ given.vars
+  pub rows : v.rows ≡ given.rows
+  pub satisfied : Satisfies shape larger v p
 
 -- whatever satisfies some cube can be extended to what satisfies the problem
 abbrev pub AreExtendable : ShapeParts → Problem → List Problem → Type 0

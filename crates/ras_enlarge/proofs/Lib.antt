@@ -1,0 +1,4 @@
+pub mod NextNumbers
+pub mod Zeros
+pub mod Images
+pub mod Extended
