@@ -1,0 +1,10 @@
+use Rattle.std.proofs.Common.{subst}
+use Rattle.ras_entail.specs.Knowledge.{IsTruth}
+use Rattle.ras_entail.proofs.KnownTruth.{same-truth}
+use Rattle.ras_entail.proofs.known.truth_of.Goals as goal
+
+pub returns-then-sides : goal.returns-then-sides
+returns-then-sides c =
+    let k = c.args.known.now in
+    rw c.says_same.ensures
+    (same-truth k.shape.now k.premise.now k.closure.now c.requires.known.closure c.known.ensures.table c.known.ensures.closure c.args.literal.now c.in_ok-sides.sides c.in_ok-sides.ensures c.if-sides.true)
