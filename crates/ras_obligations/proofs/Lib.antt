@@ -1,3 +1,5 @@
 pub mod Numbered
 mod Parts
 pub mod StartFits
+pub mod Zipped
+pub mod Fronts

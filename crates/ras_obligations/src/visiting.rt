@@ -1,4 +1,4 @@
-ghost use Rattle.std.specs.Prelude.{◌∷◌, [], map, flat_map, All, OnOk, IfErr};
+ghost use Rattle.std.specs.Prelude.{◌≤◌, ◌∷◌, [], map, flat_map, length, All, OnOk, IfErr};
 ghost use Rattle.ras_logic.specs.Formulas.{Fits};
 ghost use Rattle.ras_system.specs.Obligations.{start_obligations, obligations, with_formulas, preimages as all_preimages};
 ghost use Rattle.ras_obligations.specs.Visits.{Visits, Bars, OnStopped};
@@ -12,7 +12,7 @@ use std::alloc::Global;
 
 /// What takes the obligations of a certificate one after the other: each is a premise, which is to be refuted by cases on formulas.
 pub trait Visitor {
-    ghost use Rattle.std.specs.Prelude.{◌∷◌, [], ◌++◌, List, All, OnOk, IfErr};
+    ghost use Rattle.std.specs.Prelude.{◌≤◌, ◌∷◌, [], ◌++◌, List, length, All, OnOk, IfErr};
     ghost use Rattle.ras_logic.specs.Formulas.{Fits};
     ghost use Rattle.ras_system.specs.Systems.{SystemParts};
     ghost use Rattle.ras_system.specs.Obligations.{Obligation, with_formulas};
@@ -43,6 +43,7 @@ pub trait Visitor {
         requires ready { ready self.now }
         requires premise { Fits system.now.shape premise.now }
         requires formulas { All (Fits system.now.shape) formulas.now }
+        requires few { length formulas.now ≤ 4294967295 }
         ensures ready { OnOk result (ready self.new) }
         ensures visited { OnOk result (Visits given (visited system.now) (with_formulas formulas.now premise.now ∷ []) self.old self.new) }
         ensures barred { IfErr result (λ h. OnStopped h (Bars given (visited system.now) (barred system.now) (with_formulas formulas.now premise.now ∷ []) self.old self.new)) };
@@ -60,6 +61,7 @@ fn visit_starts<V: Visitor>(
 ) -> Result<(), Halt>
     requires ready { V.ready visitor.now }
     requires fit { All (Fits system.now.shape) formulas.now }
+    requires few { length formulas.now ≤ 4294967295 }
     ensures ready { OnOk result (V.ready visitor.new) }
     ensures visited { OnOk result (Visits V.given (V.visited system.now) (start_obligations system.now formulas.now) visitor.old visitor.new) }
     ensures barred { IfErr result (λ h. OnStopped h (Bars V.given (V.visited system.now) (V.barred system.now) (start_obligations system.now formulas.now) visitor.old visitor.new)) }
@@ -80,6 +82,7 @@ fn visit_goals<V: Visitor>(
 ) -> Result<(), Halt>
     requires ready { V.ready visitor.now }
     requires fit { All (Fits system.now.shape) formulas.now }
+    requires few { length formulas.now ≤ 4294967295 }
     ensures ready { OnOk result (V.ready visitor.new) }
     ensures visited { OnOk result (Visits V.given (V.visited system.now) (map (with_formulas formulas.now) system.now.goals) visitor.old visitor.new) }
     ensures barred { IfErr result (λ h. OnStopped h (Bars V.given (V.visited system.now) (V.barred system.now) (map (with_formulas formulas.now) system.now.goals) visitor.old visitor.new)) }
@@ -103,6 +106,7 @@ fn visit_premises<V: Visitor>(
     requires ready { V.ready visitor.now }
     requires premises { All (Fits system.now.shape) premises.now }
     requires fit { All (Fits system.now.shape) formulas.now }
+    requires few { length formulas.now ≤ 4294967295 }
     ensures ready { OnOk result (V.ready visitor.new) }
     ensures visited { OnOk result (Visits V.given (V.visited system.now) (map (with_formulas formulas.now) premises.now) visitor.old visitor.new) }
     ensures barred { IfErr result (λ h. OnStopped h (Bars V.given (V.visited system.now) (V.barred system.now) (map (with_formulas formulas.now) premises.now) visitor.old visitor.new)) }
@@ -124,6 +128,7 @@ fn visit_preimages<V: Visitor>(
     requires ready { V.ready visitor.now }
     requires formula { Fits system.now.shape formula.now }
     requires fit { All (Fits system.now.shape) formulas.now }
+    requires few { length formulas.now ≤ 4294967295 }
     ensures ready { OnOk result (V.ready visitor.new) }
     ensures visited { OnOk result (Visits V.given (V.visited system.now) (map (with_formulas formulas.now) (all_preimages system.now formula.now)) visitor.old visitor.new) }
     ensures barred { IfErr result (λ h. OnStopped h (Bars V.given (V.visited system.now) (V.barred system.now) (map (with_formulas formulas.now) (all_preimages system.now formula.now)) visitor.old visitor.new)) }
@@ -145,6 +150,7 @@ fn visit_steps<V: Visitor>(
 ) -> Result<(), Halt>
     requires ready { V.ready visitor.now }
     requires fit { All (Fits system.now.shape) formulas.now }
+    requires few { length formulas.now ≤ 4294967295 }
     ensures ready { OnOk result (V.ready visitor.new) }
     ensures visited { OnOk result (Visits V.given (V.visited system.now) (map (with_formulas formulas.now) (flat_map (all_preimages system.now) formulas.now)) visitor.old visitor.new) }
     ensures barred { IfErr result (λ h. OnStopped h (Bars V.given (V.visited system.now) (V.barred system.now) (map (with_formulas formulas.now) (flat_map (all_preimages system.now) formulas.now)) visitor.old visitor.new)) }
@@ -165,6 +171,7 @@ pub fn visit_obligations<V: Visitor>(
 ) -> Result<(), Halt>
     requires ready { V.ready visitor.now }
     requires fit { All (Fits system.now.shape) formulas.now }
+    requires few { length formulas.now ≤ 4294967295 }
     ensures visited { OnOk result (Visits V.given (V.visited system.now) (obligations system.now formulas.now) visitor.old visitor.new) }
     ensures barred { IfErr result (λ h. OnStopped h (Bars V.given (V.visited system.now) (V.barred system.now) (obligations system.now formulas.now) visitor.old visitor.new)) }
 {

@@ -6,17 +6,11 @@ use Rattle.ras_logic.specs.declared.tree.Tree.{Tree}
 use Rattle.ras_system.specs.Systems.{SystemParts}
 use Rattle.ras_system.specs.Obligations.{Obligation}
 use Rattle.ras_system.specs.Evidence.{ClosesObligation}
+use Rattle.ras_obligations.proofs.Zipped.{AllZip-append}
 use Rattle.ras_refute.specs.declared.tree_fault.TreeFault.{TreeFault}
 use Rattle.ras_safety.specs.declared.open_tree.OpenTree.{OpenTree}
 use Rattle.ras_safety.specs.Faults.{IsFaultOf, IsFirstOpen}
 use Rattle.ras_safety.specs.Judging.{JudgesNext}
-
-AllZip-append : {A B : Type 0} (R : A → B → Type 0) (xs more_xs : List A) (ys more_ys : List B) → AllZip R xs ys → AllZip R more_xs more_ys
-    → AllZip R (xs ++ more_xs) (ys ++ more_ys)
-AllZip-append R [] more_xs [] more_ys z more = more
-AllZip-append R [] more_xs (y ∷ ys) more_ys z more = absurd z
-AllZip-append R (x ∷ xs) more_xs [] more_ys z more = absurd z
-AllZip-append R (x ∷ xs) more_xs (y ∷ ys) more_ys z more = (z.0, AllZip-append R xs more_xs ys more_ys z.1 more)
 
 module _ (system : SystemParts) where
   -- it stands in the first part
