@@ -10,7 +10,7 @@ use Rattle.ras_logic.specs.Terms.{constant_term, undef_term}
 use Rattle.ras_system.specs.declared.transition.Transition.{Transition}
 use Rattle.ras_system.specs.declared.state.State.{State}
 use Rattle.ras_system.specs.Systems.{SystemParts}
-use Rattle.ras_vectors.specs.Words.{sort, constant, relation, cell, same, apart, cube, set_var, set_cell, case, set_column, database, state}
+use Rattle.ras_vectors.specs.Words.{sort, constant, relation, var, cell, same, apart, cube, set_var, set_cell, case, set_column, database, state}
 
 abbrev pub shape : ShapeParts
 shape = record {
@@ -90,4 +90,24 @@ before_clear =
     ∷ two_beside (apart (seat 1) on ∷ apart (seat 1) unset ∷ same (seat 2) on ∷ same (seat 1) off ∷ same off on ∷ [])
     ∷ two_beside (apart (seat 1) on ∷ apart (seat 1) unset ∷ apart (seat 2) on ∷ same (seat 2) unset ∷ same (seat 1) off ∷ same on on ∷ [])
     ∷ two_beside (apart (seat 1) on ∷ apart (seat 1) unset ∷ apart (seat 2) on ∷ apart (seat 2) unset ∷ same (seat 1) off ∷ same (seat 2) on ∷ [])
+    ∷ []
+
+-- the variable is forgotten: it gets no element
+abbrev pub forget : Transition
+forget = record {
+  rows = [];
+  params = [];
+  guard = (same (var 0) on ∷ []) ∷ (apart (var 0) off ∷ []) ∷ [];
+  updates = set_var 0 unset ∷ [];
+  bulk = [];
+}
+
+abbrev pub as_the_variable : Problem
+as_the_variable = cube (seats ∷ []) (same (seat 0) (var 0) ∷ apart (var 0) off ∷ [])
+
+-- before `forget`: by each disjunct, with undef in the place of the variable
+abbrev pub before_forget : List Problem
+before_forget =
+    cube (seats ∷ []) (same (var 0) on ∷ same (seat 0) unset ∷ apart unset off ∷ [])
+    ∷ cube (seats ∷ []) (apart (var 0) off ∷ same (seat 0) unset ∷ apart unset off ∷ [])
     ∷ []

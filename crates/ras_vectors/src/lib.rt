@@ -29,7 +29,8 @@ pub use faults::{
     literals_of_no_cube, sorts_of_a_schema_that_do_not_exist,
 };
 pub use preimages::{
-    a_preimage_by_bulk_cases, a_preimage_by_bulk_cases_and_functions, a_preimage_by_failing_cases,
+    a_preimage_by_a_variable_without_a_value, a_preimage_by_bulk_cases,
+    a_preimage_by_bulk_cases_and_functions, a_preimage_by_failing_cases,
     a_preimage_by_two_row_parameters, preimages_by_a_row_parameter,
 };
 pub use runs::{

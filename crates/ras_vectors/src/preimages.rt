@@ -1,7 +1,7 @@
 ghost use Rattle.std.specs.Prelude.{◌≡◌};
 ghost use Rattle.ras_system.specs.Preimages.{preimage};
 ghost use Rattle.ras_vectors.specs.Hiring.{apply, withdraw, wrong_owner, before_apply, before_withdraw};
-ghost use Rattle.ras_vectors.specs.Desk.{clear, off_and_on, before_clear};
+ghost use Rattle.ras_vectors.specs.Desk.{clear, off_and_on, before_clear, forget, as_the_variable, before_forget};
 ghost use Rattle.ras_vectors.specs.Depot.{sweep, shift, sort_out, split_up, twins, at_back, before_sweep, before_shift, before_sort_out};
 
 /// A named row, which the formula's row is or is not, and a data parameter.
@@ -18,6 +18,11 @@ pub fn a_preimage_by_bulk_cases()
 /// Two bulk cases for two rows of the formula, with functions applied to what was itself an image.
 pub fn a_preimage_by_bulk_cases_and_functions()
     ensures { preimage sweep split_up ≡ before_sweep }
+{}
+
+/// A variable that is assigned undef, by two disjuncts.
+pub fn a_preimage_by_a_variable_without_a_value()
+    ensures { preimage forget as_the_variable ≡ before_forget }
 {}
 
 /// Row parameters in the order of their numbers, none twice and none of another relation, and two disjuncts.
