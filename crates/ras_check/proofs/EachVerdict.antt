@@ -30,6 +30,7 @@ use Rattle.ras_steps.specs.declared.run.Run.{Run}
 use Rattle.ras_refute.specs.declared.tree_fault.TreeFault.{TreeFault}
 use Rattle.ras_refute.specs.declared.tree_fault.TreeKind.TheVariants as kind
 use Rattle.ras_refute.specs.Faults.{IsFirstFault, IsTreeFault}
+use Rattle.ras_evidence.specs.declared.value.Entry.{Entry}
 use Rattle.ras_evidence.specs.declared.value.Evidence.{Evidence}
 use Rattle.ras_evidence.specs.declared.value.Evidence.TheVariants.{Safe, Unsafe, Unknown}
 use Rattle.ras_violation.specs.declared.violation_fault.ViolationFault.{ViolationFault}
@@ -38,11 +39,12 @@ use Rattle.ras_violation.specs.ViolationFaults.{IsViolationFault}
 use Rattle.ras_violation.proofs.Decisions.{Decided, by_both, decided_both, decided_below, decided_all}
 use Rattle.ras_safety.specs.declared.safe_fault.SafeFault.{SafeFault}
 use Rattle.ras_safety.specs.declared.safe_fault.SafeFault.TheVariants as fault
+use Rattle.ras_spent.specs.Entries.{IsGoodSpent}
+use Rattle.ras_spent.specs.EntryFaults.{HasSpentFault}
 use Rattle.ras_check.specs.declared.verdict.Invalid.TheVariants as invalid
-use Rattle.ras_check.specs.declared.verdict.Verdict.{Verdict}
 use Rattle.ras_check.specs.declared.verdict.Verdict.TheVariants as verdict
 use Rattle.ras_safety.specs.Faults.{IsFirstMisfit, IsFirstOpen, IsSafeFault}
-use Rattle.ras_check.specs.Judging.{HasWholeTrees, HasCubes, AnswersCheck}
+use Rattle.ras_check.specs.Judging.{IsComplete, HasCubes, HasAnswer, HasVerdict}
 use Rattle.ras_check.proofs.Deciding.{decided_clash}
 
 decided_lt : (a b : ℕ) → Decided (a < b)
@@ -207,11 +209,13 @@ module _ (system : SystemParts) where
           fitted (inr m) = inr (fault.Formula m.0, m.1)
           fitted (inl fit) = counted fit (cases_eq (length ts) (length (obligations system formulas)))
 
-module _ (violation : (system : SystemParts) (d : RawDb) (run : Run) → IsGoodViolation system d run ⊎ ((f : ViolationFault) × IsViolationFault system d run f)) (system : SystemParts) (is : IsSystem system) where
+module _ (violation : (system : SystemParts) (d : RawDb) (run : Run) → IsGoodViolation system d run ⊎ ((f : ViolationFault) × IsViolationFault system d run f))
+    (spent : (system : SystemParts) (entries : List Entry) (spill : Entry) → ¬ (¬ (IsGoodSpent system entries spill ⊎ HasSpentFault system entries spill)))
+    (system : SystemParts) (is : IsSystem system) where
   abbrev Has : Evidence → Type 0
-  Has e = (v : Verdict) × AnswersCheck system e v
+  Has e = HasAnswer system e
 
-  pub each_verdict : (e : Evidence) → HasWholeTrees e → HasCubes e → Has e
+  pub each_verdict : (e : Evidence) → IsComplete e → HasCubes e → HasVerdict system e
   each_verdict (Safe formulas ts) whole cubes = go (safe system is.shape.schema formulas ts cubes whole)
     where
       go : IsGoodSafe system formulas ts ⊎ ((f : SafeFault) × IsSafeFault system formulas ts f) → Has (Safe formulas ts)
@@ -222,4 +226,8 @@ module _ (violation : (system : SystemParts) (d : RawDb) (run : Run) → IsGoodV
       go : IsGoodViolation system d run ⊎ ((f : ViolationFault) × IsViolationFault system d run f) → Has (Unsafe d run)
       go (inl good) = (verdict.Valid, good)
       go (inr f) = (verdict.Invalid (invalid.Violation f.0), f.1)
-  each_verdict (Unknown entries spill) whole cubes = (verdict.Unbuilt, tt)
+  each_verdict (Unknown entries spill) complete cubes = λ none. spent system entries spill (neither none)
+    where
+      neither : ¬ Has (Unknown entries spill) → ¬ (IsGoodSpent system entries spill ⊎ HasSpentFault system entries spill)
+      neither none (inl good) = none (verdict.Valid, (complete, good))
+      neither none (inr f) = none (verdict.Invalid (invalid.Spent f.0), f.1)

@@ -1,4 +1,4 @@
 pub mod OneVerdict
-pub mod WholeTexts
+pub mod CompleteTexts
 pub mod Deciding
 pub mod EachVerdict

@@ -7,6 +7,7 @@ use Rattle.ras_refute.specs.declared.tree_fault.TreeKind.TheVariants as kind
 use Rattle.ras_refute.specs.declared.tree_fault.TreeFault.{TreeFault}
 use Rattle.ras_text.specs.Pieces.{word}
 use Rattle.ras_violation.specs.InvalidLines as violation
+use Rattle.ras_spent.specs.InvalidLines as spent
 use Rattle.ras_safety.specs.declared.safe_fault.SafeFault.{SafeFault}
 use Rattle.ras_safety.specs.declared.safe_fault.SafeFault.TheVariants as fault
 use Rattle.ras_check.specs.declared.verdict.Invalid.{Invalid}
@@ -43,3 +44,4 @@ safe_text (fault.Obligation number f) = obligation_text number f
 abbrev pub invalid_text : Invalid → List ℕ
 invalid_text (invalid.Safe f) = safe_text f
 invalid_text (invalid.Violation f) = violation.invalid_text f
+invalid_text (invalid.Spent f) = spent.invalid_text f

@@ -11,7 +11,7 @@ mod verdict;
 pub use judging::check;
 pub use law::{
     a_good_evidence_of_a_violation_suffices, a_good_evidence_of_safety_suffices,
-    a_text_has_whole_trees, an_evidence_is_judged_in_one_way, each_evidence_has_a_verdict,
+    a_text_is_complete, an_evidence_is_judged_in_one_way, each_evidence_has_a_verdict,
 };
 pub use lines::{invalid_line, valid_line};
 pub use verdict::{Invalid, Verdict};

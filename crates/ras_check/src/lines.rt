@@ -81,5 +81,6 @@ pub fn invalid_line(alloc: Global, invalid: &Invalid) -> Result<Vec<u8>, AllocEr
     match invalid {
         Invalid::Safe(fault) => safe_line(alloc, *fault),
         Invalid::Violation(fault) => ras_violation::invalid_line(alloc, fault),
+        Invalid::Spent(fault) => ras_spent::invalid_line(alloc, fault),
     }
 }

@@ -1,4 +1,5 @@
 use ras_safety::SafeFault;
+use ras_spent::SpentFault;
 use ras_violation::ViolationFault;
 use thiserror::Error;
 
@@ -11,6 +12,9 @@ pub enum Invalid {
     /// With an evidence of a violation.
     #[error(transparent)]
     Violation(ViolationFault),
+    /// With an evidence of a spent budget.
+    #[error(transparent)]
+    Spent(SpentFault),
 }
 
 /// What the judge says of an evidence.
@@ -20,6 +24,4 @@ pub enum Verdict {
     Valid,
     /// It is not, with its first fault.
     Invalid(Invalid),
-    /// There is no judge yet of such an evidence for such a system.
-    Unbuilt,
 }

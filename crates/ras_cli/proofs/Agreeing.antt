@@ -33,12 +33,12 @@ use Rattle.ras_bundles.specs.Bundles.{IsBundle}
 use Rattle.ras_bundles.specs.BundleFaults.{IsBundleFault, IsFault}
 use Rattle.ras_check.specs.declared.verdict.Verdict.{Verdict}
 use Rattle.ras_check.specs.declared.verdict.Verdict.TheVariants as verdict
-use Rattle.ras_check.specs.declared.verdict.Invalid.TheVariants.{Violation, Safe as SafeFault}
+use Rattle.ras_check.specs.declared.verdict.Invalid.TheVariants.{Violation, Safe as SafeFault, Spent}
 use Rattle.ras_check.specs.Judging.{AnswersCheck}
 use Rattle.ras_check.specs.VerdictLines.{valid_text, invalid_text}
 use Rattle.ras_cli.specs.declared.outcome.Outcome.{Outcome}
 use Rattle.ras_cli.specs.declared.outcome.Outcome.TheVariants.{Done, NoSystem, NoBundle, NoEvidence, Invalid, TooLong, NotRead, NoCommand}
-use Rattle.ras_cli.specs.declared.outcome.Reason.TheVariants.{Fault, Unbuilt, NoRun}
+use Rattle.ras_cli.specs.declared.outcome.Reason.TheVariants.{Fault, NoRun}
 use Rattle.ras_cli.specs.Words.{Request, check_bundle, print, check, replay}
 use Rattle.ras_text.specs.Pieces.{line}
 use Rattle.ras_cli.specs.Answers.{status_of, text_of, numbered, bundle_word, reason_word}
@@ -88,28 +88,24 @@ either_agree IsValue IsBad OfValue OfTold OfBad values bads never o p (inr a) (i
 -- Verdicts.
 
 -- the status and the text of a verdict
-abbrev Tells : Evidence → ℕ → Verdict → Outcome → Type 0
-Tells e n verdict.Valid o = (status_of o ≡ 0) × (text_of o ≡ valid_text e)
-Tells e n (verdict.Invalid f) o = (status_of o ≡ 31) × (text_of o ≡ invalid_text f)
-Tells e n verdict.Unbuilt o = (status_of o ≡ 31) × (text_of o ≡ numbered (codes "REFUSED evidence LINE ") n (reason_word Unbuilt))
+abbrev Tells : Evidence → Verdict → Outcome → Type 0
+Tells e verdict.Valid o = (status_of o ≡ 0) × (text_of o ≡ valid_text e)
+Tells e (verdict.Invalid f) o = (status_of o ≡ 31) × (text_of o ≡ invalid_text f)
 
-verdict_of : (system : SystemParts) (e : Evidence) (n : ℕ) (o : Outcome) → IsVerdict system e n o → (v : Verdict) × AnswersCheck system e v × Tells e n v o
-verdict_of system e n (Done text) h = (verdict.Valid, h.0.0, (refl, h.1))
-verdict_of system e n (Invalid f) h = (verdict.Invalid f, h, (refl, refl))
-verdict_of system e n (NoEvidence number Unbuilt) h =
-    (verdict.Unbuilt, h.0, (refl, ap (λ (k : ℕ). numbered (codes "REFUSED evidence LINE ") k (reason_word Unbuilt)) h.1))
-verdict_of system e n (NoEvidence number (Fault kind)) h = absurd h
-verdict_of system e n (NoEvidence number NoRun) h = absurd h
-verdict_of system e n (NoSystem f) h = absurd h
-verdict_of system e n (NoBundle number kind) h = absurd h
-verdict_of system e n (TooLong name) h = absurd h
-verdict_of system e n (NotRead name) h = absurd h
-verdict_of system e n NoCommand h = absurd h
+verdict_of : (system : SystemParts) (e : Evidence) (o : Outcome) → IsVerdict system e o → (v : Verdict) × AnswersCheck system e v × Tells e v o
+verdict_of system e (Done text) h = (verdict.Valid, h.0.0, (refl, h.1))
+verdict_of system e (Invalid f) h = (verdict.Invalid f, h, (refl, refl))
+verdict_of system e (NoEvidence number (Fault kind)) h = absurd h
+verdict_of system e (NoEvidence number NoRun) h = absurd h
+verdict_of system e (NoSystem f) h = absurd h
+verdict_of system e (NoBundle number kind) h = absurd h
+verdict_of system e (TooLong name) h = absurd h
+verdict_of system e (NotRead name) h = absurd h
+verdict_of system e NoCommand h = absurd h
 
-tell_once : (e : Evidence) (n : ℕ) (v : Verdict) (o p : Outcome) → Tells e n v o → Tells e n v p → IsOneAnswer o p
-tell_once e n verdict.Valid o p a b = (a.0 ∙ sym b.0, a.1 ∙ sym b.1)
-tell_once e n (verdict.Invalid f) o p a b = (a.0 ∙ sym b.0, a.1 ∙ sym b.1)
-tell_once e n verdict.Unbuilt o p a b = (a.0 ∙ sym b.0, a.1 ∙ sym b.1)
+tell_once : (e : Evidence) (v : Verdict) (o p : Outcome) → Tells e v o → Tells e v p → IsOneAnswer o p
+tell_once e verdict.Valid o p a b = (a.0 ∙ sym b.0, a.1 ∙ sym b.1)
+tell_once e (verdict.Invalid f) o p a b = (a.0 ∙ sym b.0, a.1 ∙ sym b.1)
 
 -- Replays.
 
@@ -139,9 +135,9 @@ ran_of system (Unsafe d run) (Done text) h = (done text.items, h, (refl, refl))
 ran_of system (Unsafe d run) (NoSystem g) h = absurd h
 ran_of system (Unsafe d run) (NoBundle number kind) h = absurd h
 ran_of system (Unsafe d run) (NoEvidence number (Fault kind)) h = absurd h
-ran_of system (Unsafe d run) (NoEvidence number Unbuilt) h = absurd h
 ran_of system (Unsafe d run) (NoEvidence number NoRun) h = absurd h
 ran_of system (Unsafe d run) (Invalid (SafeFault g)) h = absurd h
+ran_of system (Unsafe d run) (Invalid (Spent g)) h = absurd h
 ran_of system (Unsafe d run) (Invalid (Violation f)) h = (bad f, h, (refl, refl))
 ran_of system (Unsafe d run) (TooLong name) h = absurd h
 ran_of system (Unsafe d run) (NotRead name) h = absurd h
@@ -150,10 +146,10 @@ ran_of system (Safe formulas trees) (Done text) h = absurd h
 ran_of system (Safe formulas trees) (NoSystem g) h = absurd h
 ran_of system (Safe formulas trees) (NoBundle number kind) h = absurd h
 ran_of system (Safe formulas trees) (NoEvidence number (Fault kind)) h = absurd h
-ran_of system (Safe formulas trees) (NoEvidence number Unbuilt) h = absurd h
 ran_of system (Safe formulas trees) (NoEvidence number NoRun) h = (none, refl, (refl, no_run number h))
 ran_of system (Safe formulas trees) (Invalid (SafeFault g)) h = absurd h
 ran_of system (Safe formulas trees) (Invalid (Violation f)) h = absurd h
+ran_of system (Safe formulas trees) (Invalid (Spent g)) h = absurd h
 ran_of system (Safe formulas trees) (TooLong name) h = absurd h
 ran_of system (Safe formulas trees) (NotRead name) h = absurd h
 ran_of system (Safe formulas trees) NoCommand h = absurd h
@@ -161,10 +157,10 @@ ran_of system (Unknown entries spill) (Done text) h = absurd h
 ran_of system (Unknown entries spill) (NoSystem g) h = absurd h
 ran_of system (Unknown entries spill) (NoBundle number kind) h = absurd h
 ran_of system (Unknown entries spill) (NoEvidence number (Fault kind)) h = absurd h
-ran_of system (Unknown entries spill) (NoEvidence number Unbuilt) h = absurd h
 ran_of system (Unknown entries spill) (NoEvidence number NoRun) h = (none, refl, (refl, no_run number h))
 ran_of system (Unknown entries spill) (Invalid (SafeFault g)) h = absurd h
 ran_of system (Unknown entries spill) (Invalid (Violation f)) h = absurd h
+ran_of system (Unknown entries spill) (Invalid (Spent g)) h = absurd h
 ran_of system (Unknown entries spill) (TooLong name) h = absurd h
 ran_of system (Unknown entries spill) (NotRead name) h = absurd h
 ran_of system (Unknown entries spill) NoCommand h = absurd h
@@ -256,7 +252,6 @@ evidence_faults f (NoEvidence n (Fault k)) (NoEvidence m (Fault l)) a b =
 evidence_faults f (Done text) p a b = absurd a
 evidence_faults f (NoSystem g) p a b = absurd a
 evidence_faults f (NoBundle number kind) p a b = absurd a
-evidence_faults f (NoEvidence number Unbuilt) p a b = absurd a
 evidence_faults f (NoEvidence number NoRun) p a b = absurd a
 evidence_faults f (Invalid g) p a b = absurd a
 evidence_faults f (TooLong n) p a b = absurd a
@@ -265,7 +260,6 @@ evidence_faults f NoCommand p a b = absurd a
 evidence_faults f (NoEvidence n (Fault k)) (Done text) a b = absurd b
 evidence_faults f (NoEvidence n (Fault k)) (NoSystem g) a b = absurd b
 evidence_faults f (NoEvidence n (Fault k)) (NoBundle number kind) a b = absurd b
-evidence_faults f (NoEvidence n (Fault k)) (NoEvidence number Unbuilt) a b = absurd b
 evidence_faults f (NoEvidence n (Fault k)) (NoEvidence number NoRun) a b = absurd b
 evidence_faults f (NoEvidence n (Fault k)) (Invalid g) a b = absurd b
 evidence_faults f (NoEvidence n (Fault k)) (TooLong m) a b = absurd b
@@ -302,12 +296,12 @@ not_memory (bundle.Evidence f) o a = tt
 not_memory (bundle.Memory e) o a = absurd a
 
 module _ (laws : Laws) where
-  verdicts : (system : SystemParts) (e : Evidence) (n : ℕ) → Agree (IsVerdict system e n) (IsVerdict system e n)
-  verdicts system e n o p a b =
-      let v = verdict_of system e n o a in
-      let w = verdict_of system e n p b in
+  verdicts : (system : SystemParts) (e : Evidence) → Agree (IsVerdict system e) (IsVerdict system e)
+  verdicts system e o p a b =
+      let v = verdict_of system e o a in
+      let w = verdict_of system e p b in
       let same : w.0 ≡ v.0 = laws.verdict_once system e w.0 v.0 w.1 v.1 in
-      inr (tell_once e n v.0 o p v.2 (subst (λ (u : Verdict). Tells e n u p) same w.2))
+      inr (tell_once e v.0 o p v.2 (subst (λ (u : Verdict). Tells e u p) same w.2))
 
   ran_once : (system : SystemParts) (e : Evidence) (r q : Ran) → All IsCube system.goals → IsRan system e r → IsRan system e q → r ≡ q
   ran_once system (Unsafe d run) (done text) (done other) cubes a b = ap done (laws.replay_once system d run text other cubes a.1 b.1)
@@ -331,13 +325,12 @@ module _ (laws : Laws) where
 
   bundles : (bytes : List ℕ) → Agree (BundleComesTo bytes) (BundleComesTo bytes)
   bundles bytes =
-      either_agree (λ (b : Bundle). IsBundle bytes b.system b.evidence b.line) (IsBundleFault bytes) (λ b. IsVerdict b.system b.evidence b.line)
-      (λ b. IsVerdict b.system b.evidence b.line) OfBundleError
+      either_agree (λ (b : Bundle). IsBundle bytes b.system b.evidence b.line) (IsBundleFault bytes) (λ b. IsVerdict b.system b.evidence)
+      (λ b. IsVerdict b.system b.evidence) OfBundleError
       (λ v w a b o p x y.
       let same = laws.bundle_once bytes v.system w.system v.evidence w.evidence v.line w.line a b in
-      let at_system : IsVerdict w.system v.evidence v.line o = subst (λ (s : SystemParts). IsVerdict s v.evidence v.line o) same.0 x in
-      let at_evidence : IsVerdict w.system w.evidence v.line o = subst (λ (e : Evidence). IsVerdict w.system e v.line o) same.1 at_system in
-      verdicts w.system w.evidence w.line o p (subst (λ (n : ℕ). IsVerdict w.system w.evidence n o) same.2 at_evidence) y)
+      let at_system : IsVerdict w.system v.evidence o = subst (λ (s : SystemParts). IsVerdict s v.evidence o) same.0 x in
+      verdicts w.system w.evidence o p (subst (λ (e : Evidence). IsVerdict w.system e o) same.1 at_system) y)
       (λ f g a b o p x y.
       let same : f ≡ g = laws.bundle_fault_once bytes f g (not_memory f o x) (not_memory g p y) a b in
       bundle_errors g o p (subst (λ (e : BundleError). OfBundleError e o) same x) y)
@@ -403,11 +396,11 @@ module _ (laws : Laws) where
         loads_agree told before after name longest_file (FileComesTo IsPrint) (FileComesTo IsPrint) (λ bytes. files IsPrint IsPrint bytes (printed_once bytes))
     requests (check name evidence) =
         loads_agree told before after name longest_file
-        (FileComesTo (λ spec. Loads told before after evidence longest_evidence (EvidenceComesTo (λ e. IsVerdict spec.system e 1))))
-        (FileComesTo (λ spec. LoadsTold told evidence longest_evidence (EvidenceComesTo (λ e. IsVerdict spec.system e 1))))
-        (λ bytes. files (λ spec. Loads told before after evidence longest_evidence (EvidenceComesTo (λ e. IsVerdict spec.system e 1)))
-        (λ spec. LoadsTold told evidence longest_evidence (EvidenceComesTo (λ e. IsVerdict spec.system e 1))) bytes
-        (behind bytes evidence (λ s e. IsVerdict s e 1) (λ w b e. verdicts w.system e 1)))
+        (FileComesTo (λ spec. Loads told before after evidence longest_evidence (EvidenceComesTo (IsVerdict spec.system))))
+        (FileComesTo (λ spec. LoadsTold told evidence longest_evidence (EvidenceComesTo (IsVerdict spec.system))))
+        (λ bytes. files (λ spec. Loads told before after evidence longest_evidence (EvidenceComesTo (IsVerdict spec.system)))
+        (λ spec. LoadsTold told evidence longest_evidence (EvidenceComesTo (IsVerdict spec.system))) bytes
+        (behind bytes evidence IsVerdict (λ w b e. verdicts w.system e)))
     requests (replay name evidence) =
         loads_agree told before after name longest_file
         (FileComesTo (λ spec. Loads told before after evidence longest_evidence (EvidenceComesTo (IsReplay spec.system))))

@@ -51,9 +51,9 @@ module _ (told : List ℕ → Told) (before after : List ℕ → ℕ) (text : _)
       → (e : Evidence) × IsEvidenceText bytes e × OfEvidence e (Done text)
   evidence_of OfEvidence bytes h = value_of (IsEvidenceText bytes) (IsFirstFault bytes) OfEvidence OfEvidenceFault (Done text) (λ f x. x) h
 
-  bundle_of : (bytes : List ℕ) → BundleComesTo bytes (Done text) → (b : Bundle) × IsBundle bytes b.system b.evidence b.line × IsVerdict b.system b.evidence b.line (Done text)
+  bundle_of : (bytes : List ℕ) → BundleComesTo bytes (Done text) → (b : Bundle) × IsBundle bytes b.system b.evidence b.line × IsVerdict b.system b.evidence (Done text)
   bundle_of bytes h =
-      value_of (λ (b : Bundle). IsBundle bytes b.system b.evidence b.line) (IsBundleFault bytes) (λ b. IsVerdict b.system b.evidence b.line) OfBundleError (Done text) (no_bundle text) h
+      value_of (λ (b : Bundle). IsBundle bytes b.system b.evidence b.line) (IsBundleFault bytes) (λ b. IsVerdict b.system b.evidence) OfBundleError (Done text) (no_bundle text) h
 
   violation_of : (bytes content : List ℕ) (s : Spec) (e : Evidence) → Denotes bytes s.system s.names → IsEvidenceText content e → IsReplay s.system e (Done text)
       → IsViolationText bytes content
@@ -73,11 +73,11 @@ module _ (told : List ℕ → Told) (before after : List ℕ → ℕ) (text : _)
       let s = spec_of IsPrint content (subst (λ (bytes : List ℕ). FileComesTo IsPrint bytes (Done text)) same l.2) in
       (s.0.system, s.0.names, s.1)
   done (check name evidence) h = λ content words is so.
-      let OfSpec : Spec → Outcome → Type 0 = λ spec. Loads told before after evidence longest_evidence (EvidenceComesTo (λ e. IsVerdict spec.system e 1)) in
+      let OfSpec : Spec → Outcome → Type 0 = λ spec. Loads told before after evidence longest_evidence (EvidenceComesTo (IsVerdict spec.system)) in
       let l = bytes_of name longest_file (FileComesTo OfSpec) h in
       let same : l.0 ≡ content = loaded_is told before after name longest_file l.0 content l.1 is in
       let s = spec_of OfSpec content (subst (λ (bytes : List ℕ). FileComesTo OfSpec bytes (Done text)) same l.2) in
-      let OfText : Evidence → Outcome → Type 0 = λ e. IsVerdict s.0.system e 1 in
+      let OfText : Evidence → Outcome → Type 0 = IsVerdict s.0.system in
       let k = bytes_of evidence longest_evidence (EvidenceComesTo OfText) s.2 in
       let alike : k.0 ≡ words = loaded_is told before after evidence longest_evidence k.0 words k.1 so in
       let e = evidence_of OfText words (subst (λ (bytes : List ℕ). EvidenceComesTo OfText bytes (Done text)) alike k.2) in
@@ -161,8 +161,8 @@ module _ (words : List (List ℕ)) (told : List ℕ → Told) (before after : Li
   rose_of n (print name) (inr b) = absurd (file_of n IsPrint b.0 b.2).1
   rose_of n (check name evidence) (inl a) = first_rose name n.now (evidence ∷ []) a
   rose_of n (check name evidence) (inr b) =
-      let s = file_of n (λ spec. Loads told before after evidence longest_evidence (EvidenceComesTo (λ e. IsVerdict spec.system e 1))) b.0 b.2 in
-      behind_rose n name evidence (λ e. IsVerdict s.0.system e 1) (λ e x. x) s.1
+      let s = file_of n (λ spec. Loads told before after evidence longest_evidence (EvidenceComesTo (IsVerdict spec.system))) b.0 b.2 in
+      behind_rose n name evidence (IsVerdict s.0.system) (λ e x. x) s.1
   rose_of n (replay name evidence) (inl a) = first_rose name n.now (evidence ∷ []) a
   rose_of n (replay name evidence) (inr b) =
       let s = file_of n (λ spec. Loads told before after evidence longest_evidence (EvidenceComesTo (IsReplay spec.system))) b.0 b.2 in

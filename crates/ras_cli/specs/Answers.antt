@@ -11,7 +11,7 @@ use Rattle.ras_check.specs.VerdictLines.{invalid_text}
 use Rattle.ras_cli.specs.declared.outcome.Outcome.{Outcome}
 use Rattle.ras_cli.specs.declared.outcome.Outcome.TheVariants.{Done, NoSystem, NoBundle, NoEvidence, Invalid, TooLong, NotRead, NoCommand}
 use Rattle.ras_cli.specs.declared.outcome.Reason.{Reason}
-use Rattle.ras_cli.specs.declared.outcome.Reason.TheVariants.{Fault, Unbuilt, NoRun}
+use Rattle.ras_cli.specs.declared.outcome.Reason.TheVariants.{Fault, NoRun}
 
 abbrev pub status_of : Outcome → ℕ
 status_of (Done text) = 0
@@ -43,7 +43,6 @@ fault_word fault.Ended = codes "ENDED"
 
 abbrev pub reason_word : Reason → List ℕ
 reason_word (Fault kind) = fault_word kind
-reason_word Unbuilt = codes "UNBUILT"
 reason_word NoRun = codes "NO_RUN"
 
 abbrev pub usage : List ℕ

@@ -11,13 +11,13 @@ use Rattle.ras_evidence.specs.declared.value.Evidence.{Evidence}
 use Rattle.ras_evidence.specs.declared.value.Evidence.TheVariants.{Unsafe}
 use Rattle.ras_evidence.specs.EvidenceTexts.{IsEvidenceText}
 use Rattle.ras_bundles.specs.Bundles.{IsBundle}
-use Rattle.ras_check.specs.Judging.{IsFoundGood}
+use Rattle.ras_check.specs.Judging.{IsGood}
 use Rattle.ras_cli.specs.Words.{Request, check_bundle, print, check, replay}
 use Rattle.ras_cli.specs.Outcomes.{Proves}
 
 -- the evidence is good for the system, and what it says of it is so
 pub record IsProved (system : SystemParts) (evidence : Evidence) : Type 0 where
-  pub good : IsFoundGood system evidence
+  pub good : IsGood system evidence
   pub so : Proves evidence system
 
 -- the bytes are a bundle whose evidence proves what it says

@@ -33,7 +33,7 @@ abbrev pub RequestComesTo : Load → Request → Outcome → Type 0
 RequestComesTo load (check_bundle bundle) = load bundle longest_evidence BundleComesTo
 RequestComesTo load (print file) = load file longest_file (FileComesTo IsPrint)
 RequestComesTo load (check file evidence) =
-    load file longest_file (FileComesTo (λ spec. load evidence longest_evidence (EvidenceComesTo (λ e. IsVerdict spec.system e 1))))
+    load file longest_file (FileComesTo (λ spec. load evidence longest_evidence (EvidenceComesTo (IsVerdict spec.system))))
 RequestComesTo load (replay file evidence) =
     load file longest_file (FileComesTo (λ spec. load evidence longest_evidence (EvidenceComesTo (IsReplay spec.system))))
 

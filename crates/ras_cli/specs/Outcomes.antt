@@ -23,24 +23,23 @@ use Rattle.ras_bundles.specs.declared.fault.BundleError.TheVariants as bundle
 use Rattle.ras_bundles.specs.Bundles.{IsBundle}
 use Rattle.ras_bundles.specs.BundleFaults.{IsBundleFault}
 use Rattle.ras_check.specs.declared.verdict.Invalid.TheVariants.{Violation}
-use Rattle.ras_check.specs.Judging.{IsFoundGood, IsInvalid, IsUnbuilt}
+use Rattle.ras_check.specs.Judging.{IsGood, IsInvalid}
 use Rattle.ras_check.specs.VerdictLines.{valid_text}
 use Rattle.ras_cli.specs.declared.outcome.Outcome.{Outcome}
 use Rattle.ras_cli.specs.declared.outcome.Outcome.TheVariants.{Done, NoSystem, NoBundle, NoEvidence, Invalid}
-use Rattle.ras_cli.specs.declared.outcome.Reason.TheVariants.{Fault, Unbuilt, NoRun}
+use Rattle.ras_cli.specs.declared.outcome.Reason.TheVariants.{Fault, NoRun}
 
--- what a good evidence proves: that the system is safe, or that it is not
+-- what a good evidence proves: that the system is safe, or that it is not; that a budget was spent proves neither
 abbrev pub Proves : Evidence → SystemParts → Type 0
 Proves (Safe formulas trees) system = IsSafe system
 Proves (Unsafe db run) system = ¬ IsSafe system
 Proves (Unknown entries spill) system = Unit {0}
 
--- the verdict on an evidence, whose first line has this number
-abbrev pub IsVerdict : SystemParts → Evidence → ℕ → Outcome → Type 0
-IsVerdict system evidence line (Done text) = (IsFoundGood system evidence × Proves evidence system) × (text.items ≡ valid_text evidence)
-IsVerdict system evidence line (Invalid f) = IsInvalid system evidence f
-IsVerdict system evidence line (NoEvidence number Unbuilt) = IsUnbuilt system evidence × (number ≡ line)
-IsVerdict system evidence line other = ⊥
+-- the verdict on an evidence
+abbrev pub IsVerdict : SystemParts → Evidence → Outcome → Type 0
+IsVerdict system evidence (Done text) = (IsGood system evidence × Proves evidence system) × (text.items ≡ valid_text evidence)
+IsVerdict system evidence (Invalid f) = IsInvalid system evidence f
+IsVerdict system evidence other = ⊥
 
 -- what comes of an evidence that is to be replayed: only one of a violation is
 abbrev pub IsReplay : SystemParts → Evidence → Outcome → Type 0
@@ -83,7 +82,7 @@ EitherOf {V} {F} IsValue IsFault OfValue OfFault outcome = ((v : V) × IsValue v
 -- the bytes are a bundle, and the outcome is the verdict on its evidence; or they have a fault, and the outcome is its refusal
 abbrev pub BundleComesTo : List ℕ → Outcome → Type 0
 BundleComesTo bytes =
-    EitherOf (λ (b : Bundle). IsBundle bytes b.system b.evidence b.line) (IsBundleFault bytes) (λ b. IsVerdict b.system b.evidence b.line) OfBundleError
+    EitherOf (λ (b : Bundle). IsBundle bytes b.system b.evidence b.line) (IsBundleFault bytes) (λ b. IsVerdict b.system b.evidence) OfBundleError
 
 -- the bytes denote a system with names, and the outcome is this one; or they have a fault
 abbrev pub FileComesTo : (Spec → Outcome → Type 0) → List ℕ → Outcome → Type 0

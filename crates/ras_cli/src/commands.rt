@@ -9,7 +9,7 @@ use crate::loading::{Halt, LONGEST_EVIDENCE, load, load_pair, load_spec};
 use crate::outcome::Outcome;
 use crate::words::Task;
 use ras_canonical::law::a_canonical_text_denotes_the_same;
-use ras_check::a_text_has_whole_trees;
+use ras_check::a_text_is_complete;
 use ras_elab::Spec;
 use ras_outside::Shelf;
 use ras_print::print;
@@ -60,9 +60,9 @@ fn check_evidence<'a, H: Shelf>(
     ensures comes { Ends result (RequestComesTo (Loads (H.told shelf.old) (H.faults shelf.old) (H.faults shelf.new)) (check_request file.now evidence.now)) }
     ensures left { Leaves (H.told shelf.old) (H.told shelf.new) (H.faults shelf.old) (H.faults shelf.new) result }
 {
-    a_text_has_whole_trees();
+    a_text_is_complete();
     let (spec, evidence) = load_pair(alloc, shelf, file, evidence)?;
-    Ok(judged(alloc, &spec.system, &evidence, 1)?)
+    Ok(judged(alloc, &spec.system, &evidence)?)
 }
 
 /// The run of an evidence is written out, in the system of a specification.

@@ -1,8 +1,8 @@
-ghost use Rattle.std.specs.Prelude.{ℕ, IfOk};
+ghost use Rattle.std.specs.Prelude.{IfOk};
 ghost use Rattle.ras_system.specs.Runs.{IsSafe};
 ghost use Rattle.ras_evidence.specs.declared.value.Evidence.TheVariants.{Safe, Unsafe};
 ghost use Rattle.ras_bundles.specs.declared.fault.BundleError.TheVariants as bundle;
-ghost use Rattle.ras_check.specs.Judging.{HasWholeTrees, IsFoundGood};
+ghost use Rattle.ras_check.specs.Judging.{IsComplete, IsGood};
 ghost use Rattle.ras_cli.specs.Outcomes.{OfEvidenceFault, OfBundleError, Proves, IsVerdict, IsReplay, BundleComesTo};
 
 use crate::outcome::{Outcome, Reason};
@@ -37,7 +37,7 @@ fn of_system_fault<'a>(line: u64, kind: BundleKind) -> Outcome<'a>
 
 /// A certificate that is found good proves that the system is safe.
 fn proves_safety(system: &System, formulas: &List<Shared<Cube>>, trees: &List<Tree>)
-    requires { IsFoundGood system.now (Safe formulas.now trees.now) }
+    requires { IsGood system.now (Safe formulas.now trees.now) }
     ensures { IsSafe system.now }
 {
     system.known();
@@ -46,7 +46,7 @@ fn proves_safety(system: &System, formulas: &List<Shared<Cube>>, trees: &List<Tr
 
 /// A run that is found good proves that it is not.
 fn proves_violation(system: &System, db: &RawDb, run: &Run)
-    requires { IsFoundGood system.now (Unsafe db.now run.now) }
+    requires { IsGood system.now (Unsafe db.now run.now) }
     ensures { ¬ IsSafe system.now }
 {
     a_good_evidence_of_a_violation_suffices();
@@ -54,7 +54,7 @@ fn proves_violation(system: &System, db: &RawDb, run: &Run)
 
 /// An evidence that is found good proves what it says.
 fn proves(system: &System, evidence: &Evidence)
-    requires { IsFoundGood system.now evidence.now }
+    requires { IsGood system.now evidence.now }
     ensures { Proves evidence.now system.now }
 {
     match evidence {
@@ -66,31 +66,26 @@ fn proves(system: &System, evidence: &Evidence)
 
 /// The answer to an evidence that is found good.
 fn valid<'a>(alloc: Global, system: &System, evidence: &Evidence) -> Result<Outcome<'a>, AllocError>
-    requires { IsFoundGood system.now evidence.now }
-    ensures { (line : ℕ) → IfOk result (IsVerdict system.now evidence.now line) }
+    requires { IsGood system.now evidence.now }
+    ensures { IfOk result (IsVerdict system.now evidence.now) }
 {
     proves(system, evidence);
     let text = Vec::from_slice(alloc, valid_line(evidence))?;
     Ok(Outcome::Done(text))
 }
 
-/// The verdict on an evidence, whose first line has this number.
+/// The verdict on an evidence.
 pub fn judged<'a>(
     alloc: Global,
     system: &System,
     evidence: &Evidence,
-    line: u64,
 ) -> Result<Outcome<'a>, AllocError>
-    requires { HasWholeTrees evidence.now }
-    ensures { IfOk result (IsVerdict system.now evidence.now line) }
+    requires { IsComplete evidence.now }
+    ensures { IfOk result (IsVerdict system.now evidence.now) }
 {
     match check(alloc, system, evidence)? {
         Verdict::Valid => valid(alloc, system, evidence),
         Verdict::Invalid(invalid) => Ok(Outcome::Invalid(invalid)),
-        Verdict::Unbuilt => Ok(Outcome::NoEvidence {
-            line,
-            reason: Reason::Unbuilt,
-        }),
     }
 }
 
@@ -99,7 +94,7 @@ pub fn judged_bundle<'a>(alloc: Global, bytes: &[u8]) -> Result<Outcome<'a>, All
     ensures { IfOk result (BundleComesTo bytes.now) }
 {
     match read_bundle(alloc, bytes) {
-        Ok(bundle) => judged(alloc, &bundle.system, &bundle.evidence, bundle.line),
+        Ok(bundle) => judged(alloc, &bundle.system, &bundle.evidence),
         Err(BundleError::System { line, kind }) => Ok(of_system_fault(line, kind)),
         Err(BundleError::Evidence(fault)) => Ok(of_fault(fault)),
         Err(BundleError::Memory(error)) => Err(error),

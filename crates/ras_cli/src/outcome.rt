@@ -14,8 +14,6 @@ use std::alloc::{AllocError, Global};
 pub enum Reason {
     /// The bytes are no text of an evidence, with their first fault.
     Fault(EvidenceKind),
-    /// There is no judge yet of such an evidence for such a system.
-    Unbuilt,
     /// It is not one of a violation, so there is no run to write out.
     NoRun,
 }
@@ -26,7 +24,6 @@ impl Reason {
     {
         match self {
             Reason::Fault(kind) => fault_word(kind),
-            Reason::Unbuilt => b"UNBUILT",
             Reason::NoRun => b"NO_RUN",
         }
     }
@@ -41,7 +38,7 @@ pub enum Outcome<'a> {
     NoSystem(FileFault),
     /// The system part of the bundle denotes no system, with the line of its first fault.
     NoBundle { line: u64, kind: BundleKind },
-    /// The evidence is not judged; its fault stands in this line, or this is its first line.
+    /// There is no evidence to judge, or no run to write out: the line of its first fault, or its first line.
     NoEvidence { line: u64, reason: Reason },
     /// The evidence is not good, with its first fault.
     Invalid(Invalid),

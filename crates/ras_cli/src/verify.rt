@@ -45,13 +45,12 @@ fn outcome<'a, H: Shelf>(
 ///
 /// | Status | Text | Comes |
 /// |---|---|---|
-/// | 0 | `VALID SAFE`, `VALID UNSAFE` | of `check` where the evidence is of a kind that is judged, and good |
+/// | 0 | `VALID SAFE`, `VALID UNSAFE`, `VALID UNKNOWN` | of `check` where the evidence is good |
 /// | 0 | the states of the run and the goal met | of `replay` where the evidence is a violation |
 /// | 0 | the canonical text | of `print` where the file denotes a system |
 /// | 30 | `REFUSED file AT P KIND` | where the specification denotes no system: its first fault |
 /// | 30 | `REFUSED bundle LINE N KIND` | where the system part of the bundle denotes none: the line of its first fault |
 /// | 31 | `REFUSED evidence LINE N KIND` | where no text of an evidence stands there: the line of its first fault |
-/// | 31 | `REFUSED evidence LINE N UNBUILT` | of `check` where the evidence is one of a spent budget, which is not judged yet |
 /// | 31 | `REFUSED evidence LINE 1 NO_RUN` | of `replay` where the evidence is none of a violation |
 /// | 31 | an `INVALID` line | where the evidence is not good: its first fault |
 /// | 32 | `REFUSED long NAME` | where an evidence or a bundle is longer than the longest `Vec<u8>`, or a specification than 1,048,576 bytes |

@@ -125,10 +125,10 @@ module _ (system : SystemParts) (d : RawDb) where
       go (Some t) known = by_transition t known (steps.judged d t s c)
 
   -- a run, or its first fault
-  abbrev HasRefusal : State → List Choice → Type 0
+  abbrev pub HasRefusal : State → List Choice → Type 0
   HasRefusal start choices = (f : ReplayFault) × IsReplayFault system d start choices f × (¬ IsMemory f.fault)
 
-  judged_run : (start : State) (choices : List Choice) → ((last : State) × IsRun system d start choices last) ⊎ HasRefusal start choices
+  pub judged_run : (start : State) (choices : List Choice) → ((last : State) × IsRun system d start choices last) ⊎ HasRefusal start choices
   judged_run start [] = inl (start, refl)
   judged_run start (c ∷ choices) = go (judged_step start c) (λ next. judged_run next choices)
     where

@@ -24,16 +24,16 @@ use Rattle.ras_violation.specs.Violations.{IsGoodViolation}
 use Rattle.ras_violation.specs.ViolationFaults.{IsViolationFault}
 use Rattle.ras_violation.proofs.Paths.{one_run, not_all, not_longer}
 
-abbrev NoDatabase : Type 0
+abbrev pub NoDatabase : Type 0
 NoDatabase = (s : SchemaParts) (d : RawDb) (f : DbFault) → IsDatabaseFault s d f → ¬ IsDatabase s d
 
-abbrev NoStep : Type 0
+abbrev pub NoStep : Type 0
 NoStep = (system : SystemParts) (d : RawDb) (s : State) (c : Choice) (f : StepFault) → IsStepFault system d s c f → (¬ IsMemory f) → (next : State) → ¬ IsStep system d s c next
 
-abbrev OneDatabaseFault : Type 0
+abbrev pub OneDatabaseFault : Type 0
 OneDatabaseFault = (s : SchemaParts) (d : RawDb) (f g : DbFault) → IsDatabaseFault s d f → IsDatabaseFault s d g → f ≡ g
 
-abbrev OneStepFault : Type 0
+abbrev pub OneStepFault : Type 0
 OneStepFault = (system : SystemParts) (d : RawDb) (s : State) (c : Choice) (f g : StepFault) → IsStepFault system d s c f → IsStepFault system d s c g → (¬ IsMemory f) → (¬ IsMemory g) → f ≡ g
 
 module _ (no_database : NoDatabase) (no_step : NoStep) (system : SystemParts) (d : RawDb) (run : Run) where
@@ -51,7 +51,7 @@ module _ (no_database : NoDatabase) (no_step : NoStep) (system : SystemParts) (d
     same_step None s t f g e hf hg nf ng = absurd (nf hf)
     same_step (Some c) s t f g e hf hg nf ng = one_step system d t c f g (subst (λ (u : State). IsStepFault system d u c f) e hf) hg nf ng
 
-    one_refusal : (f g : ReplayFault) → IsReplayFault system d run.start run.choices f → IsReplayFault system d run.start run.choices g → (¬ IsMemory f.fault) → (¬ IsMemory g.fault) → f ≡ g
+    pub one_refusal : (f g : ReplayFault) → IsReplayFault system d run.start run.choices f → IsReplayFault system d run.start run.choices g → (¬ IsMemory f.fault) → (¬ IsMemory g.fault) → f ≡ g
     one_refusal f g hf hg nf ng = go (cases_order f.at g.at)
       where
         same : f.at ≡ g.at → f.fault ≡ g.fault

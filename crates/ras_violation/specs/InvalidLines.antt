@@ -25,15 +25,21 @@ step_kind (step.ValueOutside value) = codes "VALUE_OUTSIDE"
 step_kind step.GuardFalse = codes "GUARD_FALSE"
 step_kind (step.Memory e) = []
 
+-- ` database KIND`
 abbrev pub database_text : DbFault → List ℕ
-database_text f = codes "INVALID database " ++ (database_kind f ++ codes "\n")
+database_text f = codes " database " ++ (database_kind f ++ codes "\n")
 
+-- ` step J KIND`
 abbrev pub step_text : ReplayFault → List ℕ
-step_text f = codes "INVALID step" ++ (word f.at ++ (codes " " ++ (step_kind f.fault ++ codes "\n")))
+step_text f = codes " step" ++ (word f.at ++ (codes " " ++ (step_kind f.fault ++ codes "\n")))
+
+-- what is wrong, and the end of the line
+abbrev pub fault_text : ViolationFault → List ℕ
+fault_text (fault.Database f) = database_text f
+fault_text fault.StartNotFitting = codes " start NOT_FITTING\n"
+fault_text fault.StartNotInitial = codes " start NOT_INITIAL\n"
+fault_text (fault.Step f) = step_text f
+fault_text fault.EndNotUnsafe = codes " end NOT_UNSAFE\n"
 
 abbrev pub invalid_text : ViolationFault → List ℕ
-invalid_text (fault.Database f) = database_text f
-invalid_text fault.StartNotFitting = codes "INVALID start NOT_FITTING\n"
-invalid_text fault.StartNotInitial = codes "INVALID start NOT_INITIAL\n"
-invalid_text (fault.Step f) = step_text f
-invalid_text fault.EndNotUnsafe = codes "INVALID end NOT_UNSAFE\n"
+invalid_text f = codes "INVALID" ++ fault_text f

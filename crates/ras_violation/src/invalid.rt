@@ -1,5 +1,5 @@
 ghost use Rattle.std.specs.Prelude.{◌≡◌, ◌++◌, IfOk, OnOk};
-ghost use Rattle.ras_violation.specs.InvalidLines.{database_kind as the_kind, step_kind, database_text, step_text, invalid_text};
+ghost use Rattle.ras_violation.specs.InvalidLines.{database_kind as the_kind, step_kind, database_text, step_text, fault_text, invalid_text};
 
 use crate::violation_fault::ViolationFault;
 use ras_database::DbFault;
@@ -33,33 +33,35 @@ fn put_step_kind(out: &mut Vec<u8>, fault: StepFault) -> Result<(), AllocError>
     }
 }
 
-fn put_step(out: &mut Vec<u8>, fault: ReplayFault) -> Result<(), AllocError>
+/// ` step J KIND` and the end of the line.
+pub fn put_step(out: &mut Vec<u8>, fault: ReplayFault) -> Result<(), AllocError>
     ensures { OnOk result (out.new.items ≡ out.old.items ++ step_text fault) }
 {
-    put(out, b"INVALID step")?;
+    put(out, b" step")?;
     put_word(out, fault.at as u64)?;
     put(out, b" ")?;
     put_step_kind(out, fault.fault)?;
     put(out, b"\n")
 }
 
-fn put_database(out: &mut Vec<u8>, fault: DbFault) -> Result<(), AllocError>
+/// ` database KIND` and the end of the line.
+pub fn put_database(out: &mut Vec<u8>, fault: DbFault) -> Result<(), AllocError>
     ensures { OnOk result (out.new.items ≡ out.old.items ++ database_text fault) }
 {
-    put(out, b"INVALID database ")?;
+    put(out, b" database ")?;
     put(out, database_kind(fault))?;
     put(out, b"\n")
 }
 
 fn put_fault(out: &mut Vec<u8>, fault: ViolationFault) -> Result<(), AllocError>
-    ensures { OnOk result (out.new.items ≡ out.old.items ++ invalid_text fault) }
+    ensures { OnOk result (out.new.items ≡ out.old.items ++ fault_text fault) }
 {
     match fault {
         ViolationFault::Database(fault) => put_database(out, fault),
-        ViolationFault::StartNotFitting => put(out, b"INVALID start NOT_FITTING\n"),
-        ViolationFault::StartNotInitial => put(out, b"INVALID start NOT_INITIAL\n"),
+        ViolationFault::StartNotFitting => put(out, b" start NOT_FITTING\n"),
+        ViolationFault::StartNotInitial => put(out, b" start NOT_INITIAL\n"),
         ViolationFault::Step(fault) => put_step(out, fault),
-        ViolationFault::EndNotUnsafe => put(out, b"INVALID end NOT_UNSAFE\n"),
+        ViolationFault::EndNotUnsafe => put(out, b" end NOT_UNSAFE\n"),
     }
 }
 
@@ -68,6 +70,7 @@ pub fn invalid_line(alloc: Global, fault: &ViolationFault) -> Result<Vec<u8>, Al
     ensures { IfOk result (λ text. text.items ≡ invalid_text fault.now) }
 {
     let mut text = Vec::new(alloc);
+    put(&mut text, b"INVALID")?;
     put_fault(&mut text, *fault)?;
     Ok(text)
 }

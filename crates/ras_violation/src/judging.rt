@@ -22,7 +22,7 @@ const GOAL_ROWS: u32 = 8;
 
 /// The first goal that a state meets, and the first rows by which it does.
 #[derive(Drop)]
-pub(crate) struct GoalMet {
+pub struct GoalMet {
     pub(crate) number: u32,
     pub(crate) found: RowBuffer,
 }
@@ -99,7 +99,7 @@ fn last_state(
 }
 
 /// The first goal that a state meets.
-pub(crate) fn goal_met(
+pub fn goal_met(
     alloc: Global,
     db: &Database,
     system: &System,

@@ -1,11 +1,11 @@
 use Rattle.std.proofs.Common.{inr, rules}
 use Rattle.ras_bundles.specs.declared.fault.BundleError.TheVariants.{System}
-use Rattle.ras_check.proofs.WholeTexts.{writable_whole}
+use Rattle.ras_check.proofs.CompleteTexts.{writable_complete}
 use Rattle.ras_cli.specs.Outcomes.{OfBundleError}
 use Rattle.ras_cli.proofs.judging.judged_bundle.Goals as goal
 
 pub judged-requires : goal.judged-requires
-judged-requires c = writable_whole c.in-Ok.bundle.evidence c.in-Ok.ensures.bundle.writable
+judged-requires c = writable_complete c.in-Ok.bundle.evidence c.in-Ok.ensures.bundle.writable
 
 pub returns-in-Err-System : goal.returns-in-Err-System
 returns-in-Err-System c =

@@ -12,5 +12,5 @@ returns c =
     let last = c.put-3.new.out.items in
     let kind = database_kind c.args.fault in
     on_ok c.put-3.result (last ≡ second ++ codes "\n") (last ≡ old ++ database_text c.args.fault)
-    (λ end. behind old first last (codes "INVALID database ") (kind ++ codes "\n") c.in_ok-put.ensures
+    (λ end. behind old first last (codes " database ") (kind ++ codes "\n") c.in_ok-put.ensures
     (behind first second last kind (codes "\n") (c.in_ok-put-2.ensures ∙ ap (λ (k : List ℕ). first ++ k) c.database_kind.ensures) end)) c.put-3.ensures

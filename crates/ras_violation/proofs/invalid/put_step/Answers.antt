@@ -16,7 +16,7 @@ returns c =
     let number = word c.args.fault.at in
     let kind = step_kind c.args.fault.fault in
     on_ok c.put-3.result (last ≡ fourth ++ codes "\n") (last ≡ old ++ step_text c.args.fault)
-    (λ end. behind old first last (codes "INVALID step") (number ++ (codes " " ++ (kind ++ codes "\n"))) c.in_ok-put.ensures
+    (λ end. behind old first last (codes " step") (number ++ (codes " " ++ (kind ++ codes "\n"))) c.in_ok-put.ensures
     (behind first second last number (codes " " ++ (kind ++ codes "\n")) c.in_ok-put_word.ensures
     (behind second third last (codes " ") (kind ++ codes "\n") c.in_ok-put-2.ensures
     (behind third fourth last kind (codes "\n") c.in_ok-put_step_kind.ensures end)))) c.put-3.ensures

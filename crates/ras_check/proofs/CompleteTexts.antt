@@ -1,4 +1,4 @@
--- What is read as an evidence has whole trees, and its formulas are cubes.
+-- What is read as an evidence is complete, and its formulas are cubes.
 use Rattle.std.proofs.Common.{zero, suc, List, [], ◌∷◌, arith}
 use Rattle.std.specs.Prelude.{All}
 use Rattle.std.specs.List.{AllByRecursion}
@@ -14,7 +14,7 @@ use Rattle.ras_lines.specs.Words.{IsSmallBase, IsSmallLiteral, IsSmallCube}
 use Rattle.ras_evidence.specs.declared.value.Evidence.{Evidence}
 use Rattle.ras_evidence.specs.declared.value.Evidence.TheVariants.{Safe, Unsafe, Unknown}
 use Rattle.ras_evidence.specs.EvidenceTexts.{IsWritable}
-use Rattle.ras_check.specs.Judging.{HasWholeTrees, HasCubes}
+use Rattle.ras_check.specs.Judging.{IsComplete, HasCubes}
 
 module _ {X : Type 0} (P Q : X → Type 0) (each : (x : X) → P x → Q x) where
   all_of : (xs : List X) → AllByRecursion P xs → All Q xs
@@ -35,10 +35,10 @@ no_param_in (Equal left right same) h = (no_param left.base h.0.base, no_param r
 small_cube : (p : Problem) → IsSmallCube p → IsCube p
 small_cube p h = record { none = h.params; unnamed = all_of IsSmallLiteral HasNoParam no_param_in p.literals h.literals.each }
 
-pub writable_whole : (e : Evidence) → IsWritable e → HasWholeTrees e
-writable_whole (Safe formulas trees) h = all_of IsWrittenTree IsWhole (λ t written. written.whole) trees h.1.each
-writable_whole (Unsafe db run) h = tt
-writable_whole (Unknown entries spill) h = tt
+pub writable_complete : (e : Evidence) → IsWritable e → IsComplete e
+writable_complete (Safe formulas trees) h = all_of IsWrittenTree IsWhole (λ t written. written.whole) trees h.1.each
+writable_complete (Unsafe db run) h = tt
+writable_complete (Unknown entries spill) h = h.0.0
 
 pub writable_cubes : (e : Evidence) → IsWritable e → HasCubes e
 writable_cubes (Safe formulas trees) h = all_of IsSmallCube IsCube small_cube formulas h.0.each
