@@ -10,9 +10,9 @@ use Rattle.ras_logic.specs.declared.literal.Literal.{Literal}
 use Rattle.ras_logic.specs.Shapes.{ShapeParts}
 use Rattle.ras_logic.specs.Truth.{AreValues, holds, Satisfies}
 use Rattle.ras_logic.proofs.Elements.{from_known}
-use Rattle.ras_cover.specs.Among.{IsAmong}
-use Rattle.ras_cover.specs.Reduced.{IsCoveredBy, AreAlike, AreOthers, IsWithin, Admits}
-use Rattle.ras_cover.proofs.Listed.{all-among, any-among, among-more, among-last, among-either, among-none}
+use Rattle.ras_split.specs.Among.{IsAmong}
+use Rattle.ras_cover.specs.Within.{IsCoveredBy, AreAlike, AreOthers, IsWithin, Admits}
+use Rattle.ras_split.proofs.Listed.{all-among, any-among, among-more, among-last, among-either, among-none}
 
 pub others-start : (p : Problem) → AreOthers [] p []
 others-start p = record { each = λ q h. h; all = λ q h. inl h }

@@ -21,64 +21,23 @@ use Rattle.ras_closure.specs.Closures.{ClosureParts, IsClosure, IsFactOf}
 use Rattle.ras_closure.proofs.Cases.{below_or_same, none_some}
 use Rattle.ras_closure.proofs.Existence.{not_without}
 use Rattle.ras_extension.proofs.Truth.{extends-itself}
-use Rattle.ras_cover.specs.Among.{IsAmong}
+use Rattle.ras_split.specs.Among.{IsAmong}
 use Rattle.ras_closure.specs.Closings.{IsClosureOf}
 use Rattle.ras_logic.specs.declared.ids.SortId.{SortId}
-use Rattle.ras_cover.specs.Covers.{with_params, bare, AreCubesOf, AreImplied, AreExtendable, HasExtension, SatisfiesAny, IsOnce, AreTidy, IsCover}
-use Rattle.ras_cover.specs.Splits.{IsModel, HasMore, HoldsIn, AreCases, IsCaseTo, IsSettled}
-use Rattle.ras_cover.specs.Standing.{CaseParts}
-use Rattle.ras_cover.specs.Reduced.{IsReducedCube, AreAlike, Admits}
-use Rattle.ras_cover.specs.Dues.{IsCubeOfCase, IsCubeFor, IsCaseIn, IsOwnCube, AreCubesTo}
+use Rattle.ras_cover.specs.Covers.{with_params, bare, AreCubesOf, AreImplied, AreExtendable, HasExtension, SatisfiesAny, AreTidy, IsCover}
+use Rattle.ras_cubes.specs.Reduced.{IsOnce, IsReducedCube}
+use Rattle.ras_split.specs.Splits.{IsModel, HasMore, HoldsIn, AreCases, IsCaseTo, IsSettled}
+use Rattle.ras_split.specs.Standing.{CaseParts}
+use Rattle.ras_cover.specs.Within.{AreAlike, Admits}
+use Rattle.ras_cubes.specs.Dues.{IsCubeOfCase, IsCubeFor}
+use Rattle.ras_cover.specs.CaseCubes.{IsCaseIn, IsOwnCube, AreCubesTo}
 use Rattle.ras_logic.proofs.Elements.{from_known, contains-at, at-contains}
-use Rattle.ras_cover.proofs.Listed.{all-among, any-among, among-more, among-last, among-either, among-none}
+use Rattle.ras_split.proofs.Listed.{all-among, any-among, among-more, among-last, among-either, among-none}
+use Rattle.ras_cubes.proofs.Needed.{reduced-is_cube, reduced-fits, reduced-satisfied, full-satisfied}
 use Rattle.ras_cover.proofs.Extending.{holds-bare, extendable-strongest, number-of}
 use Rattle.ras_cover.proofs.Numbering.{sort-free}
 use Rattle.ras_cover.proofs.Implied.{cube-is, cube-fits, cube-implied}
 use Rattle.ras_cover.proofs.Extendable.{case-extends}
-
--- a cube with the literals that are left of another
-module _ (shape : ShapeParts) (full q : Problem) (cube : IsCube full) (is : IsReducedCube shape full q) where
-  at-full : (l : Literal) → IsAmong q.literals l → (k : ℕ) × (slice_get full.literals k ≡ Some l)
-  at-full l h = let a = is.reduced.only l h in (a.number, a.known)
-
-  pub reduced-is_cube : IsCube q
-  reduced-is_cube = record {
-    none = is.params;
-    unnamed = all-among HasNoParam q.literals (λ l h. let a = at-full l h in from_known HasNoParam full.literals cube.unnamed a.0 l a.1);
-  }
-
-  same-params : q.params ≡ full.params
-  same-params = is.params ∙ sym cube.none
-
-  fits-here : (l : Literal) → LiteralFits shape full.rows full.params l → LiteralFits shape q.rows q.params l
-  fits-here l h =
-      subst (λ (s : List SortId). LiteralFits shape q.rows s l) (sym same-params) (subst (λ (r : List RelId). LiteralFits shape r full.params l) (sym is.rows) h)
-
-  pub reduced-fits : Fits shape full → Fits shape q
-  reduced-fits fits = record {
-    rows = subst (λ (r : List RelId). All (IsRelation shape) r) (sym is.rows) fits.rows;
-    params = subst (λ (s : List SortId). All (IsSort shape.schema.sorts) s) (sym same-params) fits.params;
-    literals = all-among (LiteralFits shape q.rows q.params) q.literals
-        (λ l h. let a = at-full l h in fits-here l (from_known (LiteralFits shape full.rows full.params) full.literals fits.literals a.0 l a.1));
-  }
-
-  module _ (d : RawDb) (v : Values) where
-    values-full : AreValues shape d q.rows q.params v → AreValues shape d full.rows full.params v
-    values-full values = subst (λ (s : List SortId). AreValues shape d full.rows s v) same-params (subst (λ (r : List RelId). AreValues shape d r q.params v) is.rows values)
-
-    pub reduced-satisfied : Satisfies shape d v full → Satisfies shape d v q
-    reduced-satisfied s = record {
-      values = subst (λ (t : List SortId). AreValues shape d q.rows t v) (sym same-params) (subst (λ (r : List RelId). AreValues shape d r full.params v) (sym is.rows) s.values);
-      literals = all-among (λ (l : Literal). IsTrue (holds d v l)) q.literals
-          (λ l h. let a = at-full l h in from_known (λ (m : Literal). IsTrue (holds d v m)) full.literals s.literals a.0 l a.1);
-    }
-
-    pub full-satisfied : IsDatabase shape.schema d → Satisfies shape d v q → Satisfies shape d v full
-    full-satisfied db s = record {
-      values = values-full s.values;
-      literals = all-among (λ (l : Literal). IsTrue (holds d v l)) full.literals
-          (λ l h. is.reduced.same l h d v db (values-full s.values) (λ m at. from_known (λ (n : Literal). IsTrue (holds d v n)) q.literals s.literals at.number m at.known));
-    }
 
 -- a cube that some closure without a clash satisfies everywhere does not clash
 pub open-no_clash : (shape : ShapeParts) → IsShape shape → (c : ClosureParts) → IsTable c.table → IsClosure c → c.clash ≡ None → c.table.shape ≡ shape → (q : Problem) → Fits shape q
@@ -367,14 +326,3 @@ clash-cover shape ok problem fits clash = record {
 
     extendable : AreExtendable shape problem []
     extendable d v db some = absurd (among-none some.1 (record { number = some.0; known = number-of (Satisfies shape d v) [] some }))
-
--- what is done with each of the cases' cubes is the answer's
-pub ok-if : {T E : Type 0} {P Q : T → Type 0} (r : Result T E) → IfOk r P → ((x : T) → P x → Q x) → IfOk r Q
-ok-if (Ok x) h f = f x h
-ok-if (Err e) h f = h
-
-pub none-tidy : (shape : ShapeParts) → AreTidy shape []
-none-tidy shape = record {
-  no_clash = all-among (λ (c : Problem). FactsClash shape.schema c.literals → ⊥) [] (λ p h. absurd (among-none p h));
-  once = all-among (λ (c : Problem). IsOnce c.literals) [] (λ p h. absurd (among-none p h));
-}

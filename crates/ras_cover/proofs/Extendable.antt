@@ -26,12 +26,12 @@ use Rattle.ras_logic.proofs.Elements.{from_known}
 use Rattle.ras_closure.proofs.Sides.{literal-known}
 use Rattle.ras_closure.proofs.Existence.{choose, elements-of, image-of}
 use Rattle.ras_closure.proofs.Cases.{some_same, none_some, below_or}
-use Rattle.ras_cover.specs.Among.{IsAmong}
+use Rattle.ras_split.specs.Among.{IsAmong}
 use Rattle.ras_cover.specs.Covers.{with_params, HasExtension, IsExtension}
-use Rattle.ras_cover.specs.Standing.{standing, AreAllStanding}
-use Rattle.ras_cover.specs.Dues.{IsDue, IsTrivial, IsCubeOf}
+use Rattle.ras_split.specs.Standing.{standing, AreAllStanding}
+use Rattle.ras_cubes.specs.Dues.{IsDue, IsTrivial, IsCubeOf}
 use Rattle.ras_cover.specs.Extensions.{AreNumbersFor, AreNumbersOver, IsTableOver, IsDbOver}
-use Rattle.ras_cover.proofs.Listed.{all-among}
+use Rattle.ras_split.proofs.Listed.{all-among}
 use Rattle.ras_cover.proofs.Implied.{differ-true}
 use Rattle.ras_cover.proofs.Numbering.{numbers-over, numbers-same, numbers-differ}
 use Rattle.ras_cover.proofs.LargerDatabase.{extension-database, extension-extends, extension-values, extension-value}

@@ -30,15 +30,15 @@ use Rattle.ras_closure.proofs.Cases.{none_some}
 use Rattle.ras_logic.specs.declared.cube_fault.CubeFault.{CubeFault}
 use Rattle.ras_logic.specs.declared.cube_fault.CubeFault.TheVariants.{Param}
 use Rattle.ras_logic.specs.CubeFaults.{IsCubeFault}
-use Rattle.ras_cover.specs.Among.{IsAmong}
+use Rattle.ras_split.specs.Among.{IsAmong}
 use Rattle.ras_cover.specs.Covers.{bare}
-use Rattle.ras_cover.specs.Standing.{StandsIn, standing, AreStanding, IsOwn, own_base, own_image, AreAllStanding, IsKept}
-use Rattle.ras_cover.specs.Splits.{IsModel, IsDefined, IsSettled, HasNoTotalImage}
-use Rattle.ras_cover.specs.Dues.{IsTermDue, IsImageDue, IsFactDueOf, IsFactDue, IsDue, IsTrivial, IsCubeOf}
-use Rattle.ras_cover.proofs.Listed.{all-among}
+use Rattle.ras_split.specs.Standing.{StandsIn, standing, AreStanding, IsOwn, own_base, own_image, AreAllStanding, IsKept}
+use Rattle.ras_split.specs.Splits.{IsModel, IsDefined, IsSettled, HasNoTotalImage}
+use Rattle.ras_cubes.specs.Dues.{IsTermDue, IsImageDue, IsFactDueOf, IsFactDue, IsDue, IsTrivial, IsCubeOf}
+use Rattle.ras_split.proofs.Listed.{all-among}
 use Rattle.ras_cover.proofs.Extending.{holds-bare}
-use Rattle.ras_cover.proofs.Stands.{stands-free, stands-sort, stands-value, kept-standing}
-use Rattle.ras_cover.proofs.Filling.{own-stands}
+use Rattle.ras_split.proofs.Stands.{stands-free, stands-sort, stands-value, kept-standing}
+use Rattle.ras_split.proofs.Filling.{own-stands}
 use Rattle.ras_cover.proofs.Numbering.{sort-free, not-equal}
 
 pub differ-true : (x y : ℕ) → x ≢ y → IsTrue (not (nat_eq x y))
@@ -181,8 +181,3 @@ module _ (c : ClosureParts) (table : IsTable c.table) (closure : IsClosure c) (t
           let due = of.only l h in
           subst (λ (b : Bool). IsTrue b) (sym (holds-bare d v [] l (due-free l due))) (due-holds d v model facts settled l due));
     }
-
--- literals without a data parameter have no first one with one
-pub no-fault : (literals : List Literal) → All HasNoParam literals → (q : CubeFault) → IsCubeFault literals q → ⊥
-no-fault literals free (Param k) bad =
-    let d : Literal = Equal (undef_term (record { n = 0 })) (undef_term (record { n = 0 })) true in bad.bad d (free k d bad.within)

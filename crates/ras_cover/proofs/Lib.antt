@@ -1,14 +1,7 @@
 pub mod Extending
-pub mod Listed
-pub mod Stands
-pub mod Filling
-pub mod Owning
-pub mod Adding
-pub mod Parting
 pub mod Numbering
 pub mod LargerDatabase
 pub mod Implied
 pub mod Extendable
-pub mod Needed
 pub mod Admitted
 pub mod CoverLaws

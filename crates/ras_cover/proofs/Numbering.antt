@@ -29,10 +29,10 @@ use Rattle.ras_logic.proofs.Soundness.{value-image}
 use Rattle.ras_closure.proofs.Merges.{table-sorted, link-of, sort-exists}
 use Rattle.ras_closure.proofs.Laws.{consistent}
 use Rattle.ras_closure.proofs.Cases.{some_same, none_some, le_or, below_or, true_false}
-use Rattle.ras_cover.specs.Standing.{StandsIn, standing, AreStanding, IsOwn, own_base, own_image, AreAllStanding}
-use Rattle.ras_cover.specs.Dues.{IsTermDue, IsImageDue, IsFactDueOf, IsFactDue, IsDue}
+use Rattle.ras_split.specs.Standing.{StandsIn, standing, AreStanding, IsOwn, own_base, own_image, AreAllStanding}
+use Rattle.ras_cubes.specs.Dues.{IsTermDue, IsImageDue, IsFactDueOf, IsFactDue, IsDue}
 use Rattle.ras_cover.specs.Extensions.{AreNumbersFor, AreNumbersOver}
-use Rattle.ras_cover.proofs.Stands.{stands-free, stands-sort}
+use Rattle.ras_split.proofs.Stands.{stands-free, stands-sort}
 
 -- the sort of a term without a data parameter does not speak of their sorts
 pub sort-free : (shape : ShapeParts) (rows : List RelId) (params other : List SortId) (t : Term) → IsNoParam t.base → sort_of shape rows params t ≡ sort_of shape rows other t

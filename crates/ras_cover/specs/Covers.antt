@@ -9,6 +9,7 @@ use Rattle.ras_logic.specs.Databases.{IsDatabase, Extends}
 use Rattle.ras_logic.specs.Formulas.{Fits, IsCube}
 use Rattle.ras_logic.specs.Clashes.{FactsClash}
 use Rattle.ras_logic.specs.Truth.{Satisfies}
+use Rattle.ras_cubes.specs.Reduced.{IsOnce}
 
 -- the values with these of the data parameters
 abbrev pub with_params : Values → List ℕ → Values
@@ -21,10 +22,6 @@ bare v = with_params v []
 -- the values satisfy one of the problems
 abbrev pub SatisfiesAny : ShapeParts → RawDb → Values → List Problem → Type 0
 SatisfiesAny shape d v problems = Any (Satisfies shape d v) problems
-
--- no literal is there twice
-abbrev pub IsOnce : List Literal → Type 0
-IsOnce literals = (j k : ℕ) (l : Literal) → slice_get literals j ≡ Some l → slice_get literals k ≡ Some l → j ≡ k
 
 -- cubes that do not clash, and have no literal twice
 pub record AreTidy (shape : ShapeParts) (cubes : List Problem) : Type 0 where

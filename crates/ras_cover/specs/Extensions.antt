@@ -15,7 +15,7 @@ use Rattle.ras_closure.specs.Numbered.{IsAt, IsSortOf, TableParts}
 use Rattle.ras_closure.specs.Models.{IsImage}
 use Rattle.ras_closure.specs.Classes.{class}
 use Rattle.ras_closure.specs.Closures.{ClosureParts}
-use Rattle.ras_cover.specs.Standing.{standing}
+use Rattle.ras_split.specs.Standing.{standing}
 
 -- the target of a total function has an element where its source has one
 abbrev pub AreFilled : TableParts → (SortId → ℕ) → Type 0

@@ -1,7 +1,4 @@
 pub mod Covers
-pub mod Among
-pub mod Standing
-pub mod Splits
-pub mod Reduced
-pub mod Dues
+pub mod Within
+pub mod CaseCubes
 pub mod Extensions

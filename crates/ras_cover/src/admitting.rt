@@ -1,8 +1,8 @@
 ghost use Rattle.std.specs.Prelude.{◌≡◌, ◌⊎◌, ◌++◌, ◌∷◌, [], true, IfOk, OnOk};
 ghost use Rattle.ras_logic.specs.declared.problem.Problem.{Problem};
 ghost use Rattle.ras_logic.specs.Shapes.{ShapeParts};
-ghost use Rattle.ras_cover.specs.Among.{IsAmong};
-ghost use Rattle.ras_cover.specs.Reduced.{Admits, AreAlike, AreOthers, IsCoveredBy};
+ghost use Rattle.ras_split.specs.Among.{IsAmong};
+ghost use Rattle.ras_cover.specs.Within.{Admits, AreAlike, AreOthers, IsCoveredBy};
 
 use ras_logic::{Cube, List, Literal, Plain};
 use std::alloc::{AllocError, Global};

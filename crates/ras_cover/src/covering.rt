@@ -3,24 +3,32 @@ ghost use Rattle.ras_logic.specs.declared.problem.Problem.{Problem};
 ghost use Rattle.ras_logic.specs.Formulas.{Fits, IsCube};
 ghost use Rattle.ras_closure.specs.Closings.{IsClosureOf};
 ghost use Rattle.ras_cover.specs.Covers.{AreTidy, IsCover};
-ghost use Rattle.ras_cover.specs.Among.{IsAmong};
-ghost use Rattle.ras_cover.specs.Standing.{CaseParts};
-ghost use Rattle.ras_cover.specs.Reduced.{IsReducedCube};
-ghost use Rattle.ras_cover.specs.Dues.{IsCubeFor, AreCubesTo, IsOwnCube, IsCaseIn};
+ghost use Rattle.ras_split.specs.Among.{IsAmong};
+ghost use Rattle.ras_split.specs.Standing.{CaseParts};
+ghost use Rattle.ras_cubes.specs.Reduced.{IsReducedCube};
+ghost use Rattle.ras_cubes.specs.Dues.{IsCubeFor};
+ghost use Rattle.ras_cover.specs.CaseCubes.{AreCubesTo, IsOwnCube, IsCaseIn};
 
 use crate::admitting::admit;
-use crate::case::Case;
-use crate::cubes::cube_of;
-use crate::reducing::reduced_cube;
-use crate::splitting::cases_of;
 use ras_closure::Closure;
+use ras_cubes::{cube_of, reduced_cube};
 use ras_logic::{Cube, List, Plain, Problem, Shape};
+use ras_split::{Case, cases_of};
 use std::alloc::{AllocError, Global};
 
 /// How many covers were made.
 #[derive(Clone, Copy, Debug, PartialEq, Eq)]
 pub struct CoverCount {
     pub n: u64,
+}
+
+impl CoverCount {
+    /// One more. It stands still at its greatest value.
+    fn rise(&mut self)
+        ensures { self.new.n ≡ min (self.old.n + 1) (2 ^ 64 - 1) }
+    {
+        self.n = self.n.saturating_add(1);
+    }
 }
 
 /// The problem as a cube of its own literals; none where one of them names a data parameter.
@@ -120,10 +128,28 @@ pub fn cover(
     ensures tidy { IfOk result (AreTidy shape.now) }
     ensures count { count.new.n ≡ min (count.old.n + 1) (2 ^ 64 - 1) }
 {
-    count.n = count.n.saturating_add(1);
+    count.rise();
     shape.known();
     match Closure::of(alloc, shape, problem)? {
         None => Ok(List::new(alloc)),
         Some(closure) => cubes_of(alloc, shape, problem, closure),
     }
+}
+
+/// The cover of a problem whose literals were asserted already and do not clash.
+pub fn cover_from(
+    alloc: Global,
+    shape: &Shape,
+    problem: &Problem,
+    closure: Closure,
+    count: &mut CoverCount,
+) -> Result<List<Cube>, AllocError>
+    requires fits { Fits shape.now problem.now }
+    requires closure { IsClosureOf shape.now problem.now closure }
+    ensures cover { IfOk result (IsCover shape.now problem.now) }
+    ensures tidy { IfOk result (AreTidy shape.now) }
+    ensures count { count.new.n ≡ min (count.old.n + 1) (2 ^ 64 - 1) }
+{
+    count.rise();
+    cubes_of(alloc, shape, problem, closure)
 }

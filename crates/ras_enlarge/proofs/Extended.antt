@@ -23,11 +23,11 @@ use Rattle.ras_closure.specs.Elements.{number}
 use Rattle.ras_closure.specs.Numbered.{IsTable}
 use Rattle.ras_closure.specs.Values.{AreElementsOf}
 use Rattle.ras_closure.proofs.Cases.{none_some}
-use Rattle.ras_cover.specs.Among.{IsAmong}
+use Rattle.ras_split.specs.Among.{IsAmong}
 use Rattle.ras_cover.specs.Covers.{with_params, bare, SatisfiesAny, HasExtension, IsExtension, IsCover}
-use Rattle.ras_cover.specs.Standing.{CaseParts, AreAllStanding}
-use Rattle.ras_cover.specs.Splits.{AreCases}
-use Rattle.ras_cover.specs.Dues.{IsCubeOf}
+use Rattle.ras_split.specs.Standing.{CaseParts, AreAllStanding}
+use Rattle.ras_split.specs.Splits.{AreCases}
+use Rattle.ras_cubes.specs.Dues.{IsCubeOf}
 use Rattle.ras_cover.specs.Extensions.{AreNumbersFor, IsDbOver}
 use Rattle.ras_cover.proofs.Extending.{cover-extended}
 use Rattle.ras_cover.proofs.Extendable.{larger-is}

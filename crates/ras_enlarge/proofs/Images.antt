@@ -25,7 +25,7 @@ use Rattle.ras_closure.specs.Models.{IsImage}
 use Rattle.ras_closure.specs.Closures.{ClosureParts, IsClosure, IsFactOf}
 use Rattle.ras_closure.proofs.Cases.{some_same, below_or_same, below_or}
 use Rattle.ras_closure.proofs.FoundImages.{image-found, image-none}
-use Rattle.ras_cover.specs.Standing.{standing}
+use Rattle.ras_split.specs.Standing.{standing}
 use Rattle.ras_cover.specs.Extensions.{IsTableOver}
 use Rattle.ras_enlarge.specs.Numbers.{AreTablesOver}
 

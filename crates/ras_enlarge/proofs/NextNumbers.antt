@@ -17,7 +17,7 @@ use Rattle.ras_closure.specs.Elements.{number}
 use Rattle.ras_closure.specs.Closures.{IsClosure, IsFactOf}
 use Rattle.ras_closure.proofs.Merges.{at-same, term_at}
 use Rattle.ras_closure.proofs.Cases.{some_same, none_some, below_or_same, same_or}
-use Rattle.ras_cover.specs.Standing.{CaseParts, standing}
+use Rattle.ras_split.specs.Standing.{CaseParts, standing}
 use Rattle.ras_cover.specs.Extensions.{AreFilled, AreNumbersFor}
 use Rattle.ras_enlarge.specs.Numbers.{size_in, AreNumberedTo}
 

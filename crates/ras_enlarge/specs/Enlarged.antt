@@ -7,10 +7,10 @@ use Rattle.ras_logic.specs.declared.values.Values.{Values}
 use Rattle.ras_logic.specs.Databases.{IsDatabase}
 use Rattle.ras_logic.specs.Truth.{AreValues, AllHold}
 use Rattle.ras_closure.specs.Closures.{IsFactOf}
-use Rattle.ras_cover.specs.Among.{IsAmong}
+use Rattle.ras_split.specs.Among.{IsAmong}
 use Rattle.ras_cover.specs.Covers.{IsExtension}
-use Rattle.ras_cover.specs.Standing.{CaseParts}
-use Rattle.ras_cover.specs.Dues.{IsCubeOfCase}
+use Rattle.ras_split.specs.Standing.{CaseParts}
+use Rattle.ras_cubes.specs.Dues.{IsCubeOfCase}
 
 -- a case of a problem whose literals were asserted, over a database of its shape, with values
 pub record IsCaseOver (c : CaseParts) (d : RawDb) (v : Values) : Type 0 where

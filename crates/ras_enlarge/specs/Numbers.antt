@@ -11,7 +11,7 @@ use Rattle.ras_logic.specs.Truth.{value}
 use Rattle.ras_closure.specs.Numbered.{IsAt, IsSortOf, TableParts}
 use Rattle.ras_closure.specs.Classes.{class}
 use Rattle.ras_closure.specs.Elements.{number}
-use Rattle.ras_cover.specs.Standing.{CaseParts, standing}
+use Rattle.ras_split.specs.Standing.{CaseParts, standing}
 use Rattle.ras_cover.specs.Extensions.{IsTableOver}
 
 -- the size of a sort in a list of sizes

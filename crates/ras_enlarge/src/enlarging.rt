@@ -6,9 +6,9 @@ ghost use Rattle.ras_logic.specs.Formulas.{Fits};
 ghost use Rattle.ras_logic.specs.Truth.{AreValues, AllHold};
 ghost use Rattle.ras_closure.specs.Elements.{number};
 ghost use Rattle.ras_cover.specs.Covers.{bare, HasExtension, IsCover, IsExtension, SatisfiesAny};
-ghost use Rattle.ras_cover.specs.Dues.{IsCubeOf};
+ghost use Rattle.ras_cubes.specs.Dues.{IsCubeOf};
 ghost use Rattle.ras_cover.specs.Extensions.{AreNumbersFor, IsDbOver};
-ghost use Rattle.ras_cover.specs.Standing.{CaseParts};
+ghost use Rattle.ras_split.specs.Standing.{CaseParts};
 ghost use Rattle.ras_enlarge.specs.Numbers.{size_in};
 ghost use Rattle.ras_enlarge.specs.Enlarged.{IsMissed, AreMissed, IsCaseOver, IsExtensionOfSome};
 
@@ -16,9 +16,10 @@ use crate::filling::fill;
 use crate::numbering::{Numbers, number_terms};
 use crate::tables::tables_over;
 use ras_closure::{Closure, Model, param_elements};
-use ras_cover::{Case, cases_of, cube_of};
+use ras_cubes::cube_of;
 use ras_database::{Database, holds};
 use ras_logic::{List, Literal, Plain, Problem, RawDb, Shape, Values};
+use ras_split::{Case, cases_of};
 use std::alloc::{AllocError, Global};
 
 /// The elements of the terms of a case whose cube holds, and the sizes of the sorts of the larger database.

@@ -3,9 +3,9 @@ ghost use Rattle.ras_logic.specs.Databases.{IsDatabase};
 ghost use Rattle.ras_enlarge.specs.Numbers.{AreNumberedTo, size_in};
 
 use ras_closure::TermNo;
-use ras_cover::Case;
 use ras_database::{Database, value};
 use ras_logic::{Plain, SortId, Values};
+use ras_split::Case;
 use std::alloc::{AllocError, Global};
 
 /// The elements of the terms of a case, and the sizes of the sorts with the new ones among them.

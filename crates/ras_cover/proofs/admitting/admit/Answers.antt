@@ -1,6 +1,6 @@
 use Rattle.std.proofs.Common.{◌≡◌, List, subst}
 use Rattle.ras_logic.specs.declared.problem.Problem.{Problem}
-use Rattle.ras_cover.specs.Among.{IsAmong}
+use Rattle.ras_split.specs.Among.{IsAmong}
 use Rattle.ras_cover.proofs.Admitted.{admits-covered, admits-added}
 use Rattle.ras_cover.proofs.admitting.admit.Goals as goal
 

@@ -1,4 +1,4 @@
-use Rattle.ras_cover.specs.Reduced.{AreOthers}
+use Rattle.ras_cover.specs.Within.{AreOthers}
 use Rattle.ras_cover.proofs.admitting.others.Given as goal
 
 abbrev pub invariant-loop-other : goal.invariant-loop-other

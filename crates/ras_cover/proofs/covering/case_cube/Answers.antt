@@ -3,7 +3,7 @@ use Rattle.ras_logic.specs.declared.problem.Problem.{Problem}
 use Rattle.ras_logic.specs.Shapes.{ShapeParts}
 use Rattle.ras_logic.specs.Formulas.{Fits}
 use Rattle.ras_cover.proofs.Implied.{cube-is, cube-fits}
-use Rattle.ras_cover.proofs.CoverLaws.{ok-if}
+use Rattle.ras_split.proofs.Parting.{ok-if}
 use Rattle.ras_cover.proofs.covering.case_cube.Goals as goal
 
 pub reduced_cube-requires-clause-fits : goal.reduced_cube-requires-clause-fits

@@ -1,7 +1,7 @@
 use Rattle.std.proofs.Common.{◌≡◌, ℕ, ◌≤◌, length, refl, sym, ◌∙◌, ap, subst, arith}
 use Rattle.std.specs.Prelude.{slice_get, Some}
 use Rattle.std.proofs.lemmas.Option.{slice_get_read}
-use Rattle.ras_cover.specs.Dues.{AreCubesTo}
+use Rattle.ras_cover.specs.CaseCubes.{AreCubesTo}
 use Rattle.ras_cover.proofs.CoverLaws.{cubes-start, cubes-on, cubes-alike}
 use Rattle.ras_cover.proofs.covering.case_cubes.Goals as goal
 

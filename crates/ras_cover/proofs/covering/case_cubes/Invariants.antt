@@ -1,4 +1,4 @@
-use Rattle.ras_cover.specs.Dues.{AreCubesTo}
+use Rattle.ras_cover.specs.CaseCubes.{AreCubesTo}
 use Rattle.ras_cover.proofs.covering.case_cubes.Given as goal
 
 abbrev pub invariant-loop-case : goal.invariant-loop-case

@@ -1,11 +1,12 @@
 use Rattle.std.proofs.Common.{◌≡◌, List, [], ◌∷◌, length, sym, ◌∙◌, ap, subst}
 use Rattle.ras_logic.specs.declared.problem.Problem.{Problem}
 use Rattle.ras_logic.specs.Shapes.{ShapeParts, IsShape}
-use Rattle.ras_cover.specs.Among.{IsAmong}
+use Rattle.ras_split.specs.Among.{IsAmong}
 use Rattle.ras_cover.specs.Covers.{IsCover, AreTidy}
-use Rattle.ras_cover.specs.Standing.{CaseParts}
-use Rattle.ras_cover.specs.Dues.{IsOwnCube, AreCubesTo}
-use Rattle.ras_cover.proofs.CoverLaws.{ok-if, case-in, cover-is, cover-tidy, own-cover, own-tidy}
+use Rattle.ras_split.specs.Standing.{CaseParts}
+use Rattle.ras_cover.specs.CaseCubes.{IsOwnCube, AreCubesTo}
+use Rattle.ras_cover.proofs.CoverLaws.{case-in, cover-is, cover-tidy, own-cover, own-tidy}
+use Rattle.ras_split.proofs.Parting.{ok-if}
 use Rattle.ras_cover.proofs.covering.cubes_of.Goals as goal
 
 pub returns-in-Some-clause-cover : goal.returns-in-Some-clause-cover

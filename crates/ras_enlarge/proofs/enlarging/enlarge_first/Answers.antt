@@ -2,7 +2,7 @@ use Rattle.std.proofs.Common.{◌≡◌, ℕ, ◌<◌, length, refl, sym, ◌∙
 use Rattle.std.specs.Prelude.{slice_get, Some}
 use Rattle.std.proofs.lemmas.Option.{slice_get_read, same_Some}
 use Rattle.ras_closure.proofs.Cases.{below_or_same}
-use Rattle.ras_cover.specs.Standing.{CaseParts}
+use Rattle.ras_split.specs.Standing.{CaseParts}
 use Rattle.ras_enlarge.specs.Enlarged.{IsMissed}
 use Rattle.ras_enlarge.proofs.enlarging.enlarge_first.Goals as goal
 

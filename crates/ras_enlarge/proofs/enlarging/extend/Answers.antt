@@ -5,7 +5,7 @@ use Rattle.ras_logic.specs.Clashes.{FactsClash}
 use Rattle.ras_closure.specs.declared.model.Model.{Model}
 use Rattle.ras_closure.specs.Closings.{IsClosureOf}
 use Rattle.ras_cover.specs.Covers.{bare, HasExtension, IsExtension}
-use Rattle.ras_cover.specs.Standing.{CaseParts}
+use Rattle.ras_split.specs.Standing.{CaseParts}
 use Rattle.ras_cover.proofs.CoverLaws.{case-in}
 use Rattle.ras_enlarge.specs.Enlarged.{IsCaseOver, AreMissed, IsExtensionOfSome}
 use Rattle.ras_enlarge.proofs.Extended.{ok-if, option-if, case-over, missed-no_extension, some-extension, clash-no_extension, none-of_cover}

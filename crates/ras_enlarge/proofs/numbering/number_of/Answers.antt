@@ -5,7 +5,7 @@ use Rattle.ras_closure.specs.Closures.{ClosureParts}
 use Rattle.ras_closure.specs.Numbered.{TableParts, IsAt, IsSortOf}
 use Rattle.ras_closure.specs.Classes.{class}
 use Rattle.ras_closure.proofs.Merges.{term_at}
-use Rattle.ras_cover.proofs.Owning.{index-standing}
+use Rattle.ras_split.proofs.Owning.{index-standing}
 use Rattle.ras_enlarge.proofs.NextNumbers.{numbered-old, numbered-class, numbered-new}
 use Rattle.ras_enlarge.proofs.Extended.{ok-if}
 use Rattle.ras_enlarge.proofs.numbering.number_of.Goals as goal

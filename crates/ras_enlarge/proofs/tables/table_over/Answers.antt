@@ -4,7 +4,7 @@ use Rattle.ras_logic.specs.declared.function.FunDecl.{FunDecl}
 use Rattle.ras_closure.specs.Elements.{number}
 use Rattle.ras_closure.proofs.Cases.{some_same}
 use Rattle.ras_enlarge.specs.Numbers.{size_in}
-use Rattle.ras_cover.proofs.Owning.{get_or-same}
+use Rattle.ras_split.proofs.Owning.{get_or-same}
 use Rattle.ras_enlarge.proofs.Images.{AreImagesOver, images-start, images-more, images-end, function-sorts}
 use Rattle.ras_enlarge.proofs.tables.table_over.Goals as goal
 

@@ -1,5 +1,0 @@
-use Rattle.ras_cover.proofs.Implied.{no-fault}
-use Rattle.ras_cover.proofs.reducing.cube_with.Goals as goal
-
-pub unreachable-requires : goal.unreachable-requires
-unreachable-requires c = no-fault c.args.literals c.requires c.in-Err.field-0 c.in-Err.ensures.fault

@@ -1,5 +1,0 @@
-use Rattle.ras_cover.specs.Splits.{AreSplits}
-use Rattle.ras_cover.proofs.splitting.split_all.Given as goal
-
-abbrev pub invariant-loop-case : goal.invariant-loop-case
-invariant-loop-case l = AreSplits l.yielded l.fn.term.n l.next

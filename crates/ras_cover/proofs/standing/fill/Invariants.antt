@@ -1,5 +1,0 @@
-use Rattle.ras_cover.specs.Standing.{Fills}
-use Rattle.ras_cover.proofs.standing.fill.Given as goal
-
-abbrev pub invariant-loop-gap : goal.invariant-loop-gap
-invariant-loop-gap l = Fills l.fn.terms.items l.yielded l.terms.items
