@@ -1,8 +1,9 @@
 -- The list of a preimage is exact.
-use Rattle.std.proofs.Common.{◌≡◌, ℕ, ◌<◌, true, List, [], ◌∷◌, ◌++◌, map, length, get_or, refl, sym, ◌∙◌, ap, subst, slice_get, Option, Some, All, Any, ◌↔◌}
+use Rattle.std.proofs.Common.{◌≡◌, ℕ, ◌<◌, true, List, [], ◌∷◌, ◌++◌, map, length, take, get_or, refl, sym, ◌∙◌, ap, subst, slice_get, Option, Some, All, Any, ◌↔◌}
 use Rattle.std.specs.Prelude.{IsTrue}
 use Rattle.std.specs.List.{AllByRecursion}
 use Rattle.std.proofs.lemmas.List.{nil_from_length}
+use Rattle.std.proofs.Math.Seq.{take-append_seam}
 use Rattle.std.proofs.lemmas.List.Elements.{All-from_recursion, recursion_from_All}
 use Rattle.ras_logic.specs.declared.ids.SortId.{SortId}
 use Rattle.ras_logic.specs.declared.ids.RelId.{RelId}
@@ -20,14 +21,14 @@ use Rattle.ras_system.specs.declared.state.State.{State}
 use Rattle.ras_system.specs.declared.choice.Choice.{Choice}
 use Rattle.ras_system.specs.declared.transition.Transition.{Transition}
 use Rattle.ras_system.specs.States.{IsState, AreRows, cells_of, values_at, Meets, MeetsAny}
-use Rattle.ras_system.specs.Steps.{state_after}
+use Rattle.ras_system.specs.Steps.{state_after, StepBy}
 use Rattle.ras_system.specs.Systems.{IsTransition}
 use Rattle.ras_system.specs.Preimages.{unmatched, CaseChoice, row_sources, base_before, preimage_problem, preimage}
 use Rattle.ras_backwards.specs.Leading.{LeadsBy}
 use Rattle.ras_backwards.proofs.Lists.{In, all-append, all-parts, any_in, in_any, in_all}
 use Rattle.ras_backwards.proofs.ChosenRows.{AreChosen, rows-chosen, chosen-rows, chosen-length, chosen-append, chosen-cut, cells-append, length-cells}
 use Rattle.ras_backwards.proofs.Replaced.{hold-before, hold-after}
-use Rattle.ras_backwards.proofs.Combinations.{IsMatching, preimage-is, is-preimage}
+use Rattle.ras_backwards.proofs.Combinations.{IsMatching, IsCombination, preimage-is, is-preimage}
 use Rattle.ras_backwards.proofs.Links.{Link, relations, numbers, matching, ways, more_relations, more_numbers, unmatched-relations, placed-choices, none-taken, placed-matching, more-chosen, more-apart, all-chosen, links-of}
 use Rattle.ras_backwards.proofs.After.{extended, extended-base, placed-seen, true-taken, way_literals, ways-before, ways-after, make, length-after, base-after}
 
@@ -143,17 +144,25 @@ module _ (shape : ShapeParts) (d : RawDb) (t : Transition) (good : IsTransition 
           problem = refl;
         })) meets)
 
-  -- from a problem of the list to a step into the formula
-  backwards : MeetsAny d s (preimage t cube) → LeadsBy d s t cube
-  backwards h =
-      let p = any_in (Meets d s) (preimage t cube) h in
-      let comb = preimage-is t cube p.0 p.1 in
-      let m : Meets d s (preimage_problem t cube comb.m comb.disjunct comb.ways) = subst (Meets d s) (sym comb.problem) p.2 in
+  -- the choice of these rows and data parameters is a step into the formula
+  abbrev choice_of : List ℕ → List ℕ → Choice
+  choice_of rows values = record { transition = 0; rows = rows; values = values }
+
+  pub record IsStepInto (rows values : List ℕ) : Type 0 where
+    pub step : StepBy d t s (choice_of rows values) (state_after d t s (choice_of rows values))
+    pub meets : Meets d (state_after d t s (choice_of rows values)) cube
+
+  -- from a problem of the list to a step into the formula, by its first rows and its data parameters
+  by-combination : (p : Problem) (comb : IsCombination t cube p) (m : Meets d s (preimage_problem t cube comb.m comb.disjunct comb.ways))
+      → IsStepInto (take (length t.rows) m.0) m.1
+  by-combination p comb m =
       let cut = chosen-cut s t.rows (map (λ (q : ℕ × RelId). q.1) (unmatched (length t.rows) cube.rows comb.m)) m.0
       (rows-chosen s (t.rows ++ map (λ (q : ℕ × RelId). q.1) (unmatched (length t.rows) cube.rows comb.m)) m.0 m.2) in
       let found = links-of t.rows cut.ks t.bulk s cut.first (length t.rows) [] cube.rows comb.m comb.ways cut.js comb.matching comb.choices cut.second cut.apart in
       let ls : List Link = found.links in
-      let c : Choice = record { transition = 0; rows = cut.ks; values = m.1 } in
+      let c : Choice = choice_of cut.ks m.1 in
+      let front : cut.ks ≡ take (length t.rows) m.0 =
+      sym (ap (take (length t.rows)) cut.whole ∙ ap (λ (n : ℕ). take n (cut.ks ++ cut.js)) (sym (chosen-length s t.rows cut.ks cut.first)) ∙ take-append_seam cut.ks cut.js) in
       let rows : AreRows s t.rows c.rows = chosen-rows s t.rows cut.ks cut.first in
       let one : AreChosen s t.rows c.rows = rows-chosen s t.rows c.rows rows in
       let more_cells : List (List ℕ) = cells_of s (more_relations ls) (more_numbers ls) in
@@ -195,9 +204,8 @@ module _ (shape : ShapeParts) (d : RawDb) (t : Transition) (good : IsTransition 
       let after_here : AllByRecursion (λ l. holds d (values_at new cube.rows (numbers ls) []) l ≡ true) cube.literals =
       subst (λ (x : List RelId). AllByRecursion (λ l. holds d (values_at new x (numbers ls) []) l ≡ true) cube.literals) found.relations_are after in
       let rows_here : AreRows s cube.rows (numbers ls) = chosen-rows s cube.rows (numbers ls) (subst (λ (x : List RelId). AreChosen s x (numbers ls)) found.relations_are in_ls) in
-      record {
-        choice = c;
-        next = new;
+      subst (λ (x : List ℕ). IsStepInto x m.1) front
+      (record {
         step = record {
           rows = rows;
           params = m.3;
@@ -212,10 +220,21 @@ module _ (shape : ShapeParts) (d : RawDb) (t : Transition) (good : IsTransition 
           record { as_many = sym (ap length flat.none); each = λ k u known. absurd (no_sort k u known) },
           All-from_recursion (λ l. IsTrue (holds d (values_at new cube.rows (numbers ls) []) l)) cube.literals after_here,
         );
-      }
+      })
     where
       no_sort : (k : ℕ) (u : SortId) → slice_get cube.params k ≡ Some u → ⊥
       no_sort k u known = let none : slice_get [] k ≡ Some u = subst (λ (x : List SortId). slice_get x k ≡ Some u) flat.none known in absurd (cc)
+
+  pub by-problem : (p : Problem) → In p (preimage t cube) → (m : Meets d s p) → IsStepInto (take (length t.rows) m.0) m.1
+  by-problem p i =
+      let comb = preimage-is t cube p i in
+      subst (λ (q : Problem). (m : Meets d s q) → IsStepInto (take (length t.rows) m.0) m.1) comb.problem (by-combination p comb)
+
+  backwards : MeetsAny d s (preimage t cube) → LeadsBy d s t cube
+  backwards h =
+      let p = any_in (Meets d s) (preimage t cube) h in
+      let leads = by-problem p.0 p.1 p.2 in
+      record { choice = choice_of (take (length t.rows) p.2.0) p.2.1; next = _; step = leads.step; meets = leads.meets }
 
   pub exact : LeadsBy d s t cube ↔ MeetsAny d s (preimage t cube)
   exact = (

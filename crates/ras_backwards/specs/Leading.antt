@@ -1,5 +1,5 @@
 -- Where a state leads by one step in its own database, no larger one.
-use Rattle.std.specs.Prelude.{◌≡◌, ℕ}
+use Rattle.std.specs.Prelude.{◌≡◌, ℕ, List, take, length}
 use Rattle.ras_logic.specs.declared.raw_db.RawDb.{RawDb}
 use Rattle.ras_logic.specs.declared.problem.Problem.{Problem}
 use Rattle.ras_system.specs.declared.state.State.{State}
@@ -23,3 +23,13 @@ pub record LeadsIn (system : SystemParts) (d : RawDb) (s : State) (transition : 
   pub by : choice.transition ≡ transition
   pub step : IsStep system d s choice next
   pub meets : Meets d next cube
+
+-- in this database, the step by this choice leads from the state to one that meets the cube
+pub record LeadsByChoice (system : SystemParts) (d : RawDb) (s : State) (c : Choice) (cube : Problem) : Type 0 where
+  pub next : State
+  pub step : IsStep system d s c next
+  pub meets : Meets d next cube
+
+-- the choice of the first rows, as many as the transition has row parameters, and of these values
+abbrev pub choice_by : ℕ → Transition → List ℕ → List ℕ → Choice
+choice_by number t rows values = record { transition = number; rows = take (length t.rows) rows; values = values }

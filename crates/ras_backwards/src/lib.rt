@@ -6,5 +6,5 @@ mod law;
 
 pub use law::{
     a_good_evidence_has_an_invariant, a_good_evidence_suffices, a_preimage_fits,
-    a_preimage_is_exact,
+    a_preimage_is_exact, a_problem_gives_its_step,
 };

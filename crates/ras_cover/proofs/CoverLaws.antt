@@ -202,7 +202,7 @@ free-fits shape rows params other (Equal left right same) none fits =
     (fits.0, sym (sort-free shape rows params other left none.0) ∙ fits.1, sym (sort-free shape rows params other right none.1) ∙ fits.2)
 
 -- what satisfies the facts of a problem's closure satisfies the problem
-closure-satisfied : (shape : ShapeParts) (problem : Problem) (c : ClosureParts) → IsClosureOf shape problem c → (d : RawDb) (v : Values) → IsModel c d v → Satisfies shape d v problem
+pub closure-satisfied : (shape : ShapeParts) (problem : Problem) (c : ClosureParts) → IsClosureOf shape problem c → (d : RawDb) (v : Values) → IsModel c d v → Satisfies shape d v problem
 closure-satisfied shape problem c of d v model = record {
   values = subst (λ (p : Problem). AreValues shape d p.rows p.params v) of.problem_is (subst (λ (s : ShapeParts). AreValues s d c.table.problem.rows c.table.problem.params v) of.shape_is model.values);
   literals = all-among (λ (l : Literal). IsTrue (holds d v l)) problem.literals (λ l h. model.facts l ((of.asserted l).1 (contains-at problem.literals h.number l h.known)));

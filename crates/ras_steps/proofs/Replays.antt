@@ -9,7 +9,7 @@ use Rattle.ras_system.specs.Steps.{IsStep}
 use Rattle.ras_system.specs.Runs.{IsRun}
 
 module _ (system : SystemParts) (d : RawDb) where
-  run_and_step : (start : State) (choices : List Choice) (mid : State) (c : Choice) (next : State) → IsRun system d start choices mid → IsStep system d mid c next
+  pub run_and_step : (start : State) (choices : List Choice) (mid : State) (c : Choice) (next : State) → IsRun system d start choices mid → IsStep system d mid c next
       → IsRun system d start (choices ++ c ∷ []) next
   run_and_step start [] mid c next run step = (next, subst (λ (s : State). IsStep system d s c next) run step, refl)
   run_and_step start (a ∷ choices) mid c next run step = (run.0, run.1, run_and_step run.0 choices mid c next run.2 step)

@@ -27,6 +27,7 @@ pub use replay_fault::ReplayFault;
 pub use replaying::replay;
 pub use row_buffer::{RowBuffer, meets};
 pub use run::Run;
+pub use sight::cells_of;
 pub use step_fault::StepFault;
 pub use stepping::step;
 pub use witness::Witness;
