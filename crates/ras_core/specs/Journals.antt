@@ -13,6 +13,11 @@ use Rattle.ras_core.specs.CoreStates.{CoreParts, start}
 use Rattle.ras_core.specs.Admissible.{IsFormula, NoneIsInitial}
 use Rattle.ras_core.specs.Events.{Allowed, after}
 
+-- what a program keeps of the events: these, and room for so many more
+pub record JournalParts : Type 0 where
+  pub events : List Event
+  pub room : ℕ
+
 -- Formulas that a search may begin with: no initial state meets one, and each state with a step to a state that meets one
 -- meets one.
 pub record IsBase (system : SystemParts) (base : List Problem) : Type 0 where

@@ -76,12 +76,26 @@ impl CoreState {
         }
     }
 
+    /// How many entries there may be.
+    pub fn budget(&self) -> u32
+        ensures { result ≡ self.now.budget }
+    {
+        self.budget
+    }
+
     /// The entries in the order in which they were admitted.
     pub fn entries(&self) -> &[Entry]
         ensures entries { result.now ≡ self.now.state.entries }
         ensures few { length self.now.state.entries ≤ self.now.budget }
     {
         self.entries.as_slice()
+    }
+
+    /// Whether it was recorded that the search was found quiet.
+    pub fn is_reported(&self) -> bool
+        ensures { result ≡ self.now.state.reported }
+    {
+        self.reported
     }
 
     fn is_kept(&self, entry: u32) -> bool

@@ -70,6 +70,13 @@ impl Entry {
         self.kept
     }
 
+    /// The work on it.
+    pub fn work(&self) -> Work
+        ensures { result ≡ self.now.work }
+    {
+        self.work
+    }
+
     /// Whether it is kept, with this work.
     pub fn is_at(&self, work: Work) -> bool
         ensures { IsTrue result ↔ ((self.now.kept ≡ true) × (self.now.work ≡ work)) }

@@ -8,15 +8,18 @@ mod entries;
 mod entry;
 mod event;
 mod found;
+mod journal;
 mod law;
+mod link;
 mod origin;
 mod sought;
 mod work;
 
 pub use core_state::CoreState;
 pub use entry::Entry;
-pub use event::{Event, Journal};
+pub use event::Event;
 pub use found::Found;
+pub use journal::Journal;
 pub use law::{
     a_journal_grows_by_what_is_allowed, an_empty_base_is_one,
     at_quiet_the_kept_entries_are_what_can_reach, done_entries_are_worked_out,
@@ -25,6 +28,7 @@ pub use law::{
     kept_entries_cover_all_entries, kept_entries_cover_all_submissions,
     only_the_hit_is_met_at_the_start, what_stands_was_recorded,
 };
+pub use link::Link;
 pub use origin::Origin;
 pub use sought::Sought;
 pub use work::Work;
