@@ -14,11 +14,10 @@ use Rattle.ras_evidence.specs.declared.fault.EvidenceFault.{EvidenceFault}
 use Rattle.ras_evidence.specs.declared.value.Evidence.{Evidence}
 use Rattle.ras_evidence.specs.declared.reading.ReadError.{ReadError}
 use Rattle.ras_evidence.specs.declared.reading.ReadError.TheVariants as read
-use Rattle.ras_evidence.specs.EvidenceTexts.{evidence_lines, AreEvidenceLines}
+use Rattle.ras_evidence.specs.EvidenceTexts.{Told, text_lines, AreTextLines}
 use Rattle.ras_evidence.specs.EvidenceFaults.{IsLineOf, IsTextFault, IsEnded, IsFaultBehind}
-use Rattle.ras_lines.specs.Sections.{only}
 use Rattle.ras_evidence.specs.Endings.{last_of}
-use Rattle.ras_evidence.specs.EvidenceReading.{evidence}
+use Rattle.ras_evidence.specs.EvidenceReading.{whole}
 use Rattle.ras_evidence.proofs.HeaderLaws.{same_read}
 use Rattle.ras_evidence.proofs.LastLaws.{not_more, lines_are, ended}
 use Rattle.ras_evidence.proofs.TextLaws.{evidence_read, AreOrFault, lines_or_fault, one_on_lines, one_kind, not_both, same_line}
@@ -75,9 +74,11 @@ one_front bytes r q b c s t x y =
 
 pub one_bundle : (bytes : List ℕ) (s t : SystemParts) (e d : Evidence) (n m : ℕ) → IsBundle bytes s e n → IsBundle bytes t d m → (s ≡ t) × (e ≡ d) × (n ≡ m)
 one_bundle bytes s t e d n m x y =
-    let same = one_front bytes [] [] (evidence_lines e) (evidence_lines d) s t x.front y.front in (
+    let one : Told = (e, x.journal) in
+    let other : Told = (d, y.journal) in
+    let same = one_front bytes [] [] (text_lines one) (text_lines other) s t x.front y.front in (
       same.0,
-      one_on_lines (evidence_lines e) e d (record { text = refl; writable = x.writable }) (record { text = same.1; writable = y.writable }),
+      ap (λ (p : Told). p.0) (one_on_lines (text_lines one) one other (record { text = refl; writable = x.writable }) (record { text = same.1; writable = y.writable })),
       x.number ∙ ap (λ (p : SystemParts). length (system_lines (numbers_of p)) + 1) same.0 ∙ sym y.number,
     )
 
@@ -139,19 +140,24 @@ one_fault bytes e f u v a b = let c = cut bytes in one_fault_of (lines_of bytes)
 
 -- Never both.
 
-abbrev lines_in : SystemParts → Evidence → List (List ℕ)
-lines_in s e = system_lines (numbers_of s) ++ evidence_lines e
+abbrev lines_in : SystemParts → Told → List (List ℕ)
+lines_in s t = system_lines (numbers_of s) ++ text_lines t
 
-bundle_without_fault : (bytes : List ℕ) (s : SystemParts) (e : Evidence) (n : ℕ) (f : BundleError) → IsBundle bytes s e n → IsFault f → IsFaultOf (lines_in s e) [] f → ⊥
-bundle_without_fault bytes s e n (System m k) b u (inl a) = never_text (lines_in s e) [] m a.1 (numbers_of s, evidence_lines e, (refl, b.front.numbers))
-bundle_without_fault bytes s e n (System m k) b u (inr a) = no_numbers_fault (lines_in s e) (evidence_lines e) s m k b.front.plain (refl, b.front.numbers) a
+abbrev told_by : (bytes : List ℕ) (s : SystemParts) (e : Evidence) (n : ℕ) → IsBundle bytes s e n → Told
+told_by bytes s e n b = (e, b.journal)
+
+bundle_without_fault : (bytes : List ℕ) (s : SystemParts) (e : Evidence) (n : ℕ) (f : BundleError) (b : IsBundle bytes s e n) → IsFault f → IsFaultOf (lines_in s (told_by bytes s e n b)) [] f → ⊥
+bundle_without_fault bytes s e n (System m k) b u (inl a) = never_text (lines_in s (e, b.journal)) [] m a.1 (numbers_of s, text_lines (e, b.journal), (refl, b.front.numbers))
+bundle_without_fault bytes s e n (System m k) b u (inr a) =
+    no_numbers_fault (lines_in s (e, b.journal)) (text_lines (e, b.journal)) s m k b.front.plain (refl, b.front.numbers) a
 bundle_without_fault bytes s e n (Behind g) b u a =
-    let same = (one_numbers (lines_in s e) a.1 (evidence_lines e) (numbers_of a.0) (numbers_of s) a.4 (refl, b.front.numbers)).1 in
-    not_both (evidence_lines e) a.2 [] g.kind (e, record { text = refl; writable = b.writable }) refl (subst (λ (ls : List (List ℕ)). IsTextFault ls a.2 [] g.kind) same a.5)
+    let told : Told = (e, b.journal) in
+    let same = (one_numbers (lines_in s told) a.1 (text_lines told) (numbers_of a.0) (numbers_of s) a.4 (refl, b.front.numbers)).1 in
+    not_both (text_lines told) a.2 [] g.kind (told, record { text = refl; writable = b.writable }) refl (subst (λ (ls : List (List ℕ)). IsTextFault ls a.2 [] g.kind) same a.5)
 bundle_without_fault bytes s e n (Memory g) b u a = u
 
 pub never_fault : (bytes : List ℕ) (s : SystemParts) (e : Evidence) (n : ℕ) (f : BundleError) → IsBundle bytes s e n → IsFault f → IsBundleFault bytes f → ⊥
-never_fault bytes s e n f b u fault = bundle_without_fault bytes s e n f b u (fault (lines_in s e) [] b.front.lines)
+never_fault bytes s e n f b u fault = bundle_without_fault bytes s e n f b u (fault (lines_in s (e, b.journal)) [] b.front.lines)
 
 -- One or the other.
 
@@ -164,9 +170,10 @@ on_own_lines bytes f h lines rest are =
     let same = lines_are bytes rest lines are in
     subst (λ (ls : List (List ℕ)). IsFaultOf ls rest f) same (h rest (subst (λ (ls : List (List ℕ)). AreLines bytes ls rest) (sym same) are))
 
-pub bundle_from : (bytes rest : List ℕ) (behind : List (List ℕ)) (s : SystemParts) (e : Evidence) (n : ℕ) → AreLines bytes (lines_of bytes) rest → IsPlainSystem s → IsNumbersFront (lines_of bytes) (numbers_of s) behind
-    → AreEvidenceLines behind e → rest ≡ [] → n ≡ length (system_lines (numbers_of s)) + 1 → IsBundle bytes s e n
+pub bundle_from : (bytes rest : List ℕ) (behind : List (List ℕ)) (s : SystemParts) (e : Told) (n : ℕ) → AreLines bytes (lines_of bytes) rest → IsPlainSystem s → IsNumbersFront (lines_of bytes) (numbers_of s) behind
+    → AreTextLines behind e → rest ≡ [] → n ≡ length (system_lines (numbers_of s)) + 1 → IsBundle bytes s e.0 n
 bundle_from bytes rest behind s e n are plain front text none number = record {
+  journal = e.1;
   front = record {
     plain = plain;
     numbers = front.1;
@@ -189,7 +196,7 @@ module _ (bytes rest : List ℕ) (are : AreLines bytes (lines_of bytes) rest) wh
   faulty f u fault = inr (f, u, on_own_lines bytes f (λ r more. subst (λ (q : List ℕ). IsFaultOf lines q f) (one_rest r more) fault))
 
   by_evidence : (behind : List (List ℕ)) (s : SystemParts) → IsPlainSystem s → IsNumbersFront lines (numbers_of s) behind → AreOrFault behind rest → Either bytes
-  by_evidence behind s plain front (inl t) = inl (s, t.0, length (system_lines (numbers_of s)) + 1, bundle_from bytes rest behind s t.0 (length (system_lines (numbers_of s)) + 1) are plain front t.1 t.2 refl)
+  by_evidence behind s plain front (inl t) = inl (s, t.0.0, length (system_lines (numbers_of s)) + 1, bundle_from bytes rest behind s t.0 (length (system_lines (numbers_of s)) + 1) are plain front t.1 t.2 refl)
   by_evidence behind s plain front (inr f) =
       let less : length behind ≤ length lines = omega (arith, ap length front.0, length-append (system_lines (numbers_of s)) behind) in
       let line : IsLineOf lines f.0 (length lines + 1 - length f.0) = omega (arith, less, f.2) in
@@ -227,8 +234,8 @@ text_fault bytes left n e line = on_own_lines bytes (System n Text) (λ rest are
 named_front : (bytes : List ℕ) (behind : List (List ℕ)) (l : SystemLines) (s : SystemParts) → first.system (lines_of bytes) ≡ Ok (l, behind) → numbers_of s ≡ l → IsNumbersFront (lines_of bytes) (numbers_of s) behind
 named_front bytes behind l s e same = subst (λ (x : SystemLines). IsNumbersFront (lines_of bytes) x behind) (sym same) (numbers_read (lines_of bytes) behind l e)
 
-pub bundle_answered : (bytes : List ℕ) (behind : List (List ℕ)) (l : SystemLines) (s : SystemParts) (e : Evidence) (n : ℕ) → first.system (lines_of bytes) ≡ Ok (l, behind) → numbers_of s ≡ l → IsPlainSystem s
-    → IsLineOf (lines_of bytes) behind n → AreEvidenceLines behind e → IsEnded bytes → IsBundle bytes s e n
+pub bundle_answered : (bytes : List ℕ) (behind : List (List ℕ)) (l : SystemLines) (s : SystemParts) (e : Told) (n : ℕ) → first.system (lines_of bytes) ≡ Ok (l, behind) → numbers_of s ≡ l → IsPlainSystem s
+    → IsLineOf (lines_of bytes) behind n → AreTextLines behind e → IsEnded bytes → IsBundle bytes s e.0 n
 bundle_answered bytes behind l s e n read same plain line text whole =
     let k = cut bytes in
     let front = named_front bytes behind l s read same in
@@ -270,8 +277,8 @@ read_with bytes n k (Err left) is h = absurd cc
 pub fault_read : (bytes : List ℕ) (n : ℕ) (k : BundleKind) → fault_in (first.system (lines_of bytes)) ≡ Some (n, k) → IsBundleFault bytes (System n k)
 fault_read bytes n k h = read_with bytes n k (first.system (lines_of bytes)) refl h
 
-pub bundle_read : (bytes : List ℕ) (behind : List (List ℕ)) (l : SystemLines) (e : Evidence) (n : ℕ) → first.system (lines_of bytes) ≡ Ok (l, behind) → first_fault l ≡ None → only evidence behind ≡ Ok (e, [])
-    → eqb (last_of 10 bytes) 10 ≡ true → n ≡ length (system_lines (numbers_of (system_named l))) + 1 → IsBundle bytes (system_named l) e n
+pub bundle_read : (bytes : List ℕ) (behind : List (List ℕ)) (l : SystemLines) (e : Told) (n : ℕ) → first.system (lines_of bytes) ≡ Ok (l, behind) → first_fault l ≡ None → whole behind ≡ Ok (e, [])
+    → eqb (last_of 10 bytes) 10 ≡ true → n ≡ length (system_lines (numbers_of (system_named l))) + 1 → IsBundle bytes (system_named l) e.0 n
 bundle_read bytes behind l e n read none text last number =
     let k = cut bytes in
     let front = numbers_read (lines_of bytes) behind l read in

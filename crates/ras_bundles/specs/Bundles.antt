@@ -1,5 +1,5 @@
 -- The text of a bundle: a system without relations and data parameters, and an evidence.
-use Rattle.std.specs.Prelude.{◌≡◌, ℕ, ◌+◌, List, [], ◌++◌, length}
+use Rattle.std.specs.Prelude.{◌≡◌, ℕ, ◌+◌, List, [], ◌++◌, length, Option}
 use Rattle.ras_logic.specs.SchemaFaults.{HasSchemaLimits}
 use Rattle.ras_logic.specs.ShapeFaults.{HasShapeLimits}
 use Rattle.ras_system.specs.Systems.{SystemParts, IsSystem}
@@ -7,7 +7,8 @@ use Rattle.ras_system.specs.SystemFaults.{HasSystemLimits}
 use Rattle.ras_system.specs.Plain.{IsPlain}
 use Rattle.ras_lines.specs.Faults.{AreLines}
 use Rattle.ras_evidence.specs.declared.value.Evidence.{Evidence}
-use Rattle.ras_evidence.specs.EvidenceTexts.{evidence_lines, IsWritable}
+use Rattle.ras_core.specs.declared.event.Event.{Event}
+use Rattle.ras_evidence.specs.EvidenceTexts.{text_lines, IsWritableText}
 use Rattle.ras_bundles.specs.SystemTexts.{system_lines, IsWrittenSystem}
 use Rattle.ras_bundles.specs.Numbers.{numbers_of}
 
@@ -25,8 +26,10 @@ pub record BeginsWithSystem (bytes : List ℕ) (system : SystemParts) (behind : 
   pub numbers : IsWrittenSystem (numbers_of system)
   pub lines : AreLines bytes (system_lines (numbers_of system) ++ behind) rest
 
--- the bytes are the bundle of a plain system and an evidence, whose first line has this number
+-- The bytes are the bundle of a plain system and an evidence, whose first line has this number; a journal may stand behind the
+-- evidence.
 pub record IsBundle (bytes : List ℕ) (system : SystemParts) (evidence : Evidence) (line : ℕ) : Type 0 where
-  pub front : BeginsWithSystem bytes system (evidence_lines evidence) []
-  pub writable : IsWritable evidence
+  pub journal : Option (List Event)
+  pub front : BeginsWithSystem bytes system (text_lines (evidence, journal)) []
+  pub writable : IsWritableText (evidence, journal)
   pub number : line ≡ length (system_lines (numbers_of system)) + 1

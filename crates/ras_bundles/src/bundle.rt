@@ -18,7 +18,7 @@ pub struct Bundle {
     pub line: u64,
 }
 
-/// The system and the evidence of which the bytes are the text. Want of memory may come at any bytes.
+/// The system and the evidence of which the bytes are the text; a journal behind it is read and not judged. Want of memory may come at any bytes.
 pub fn read_bundle(alloc: Global, bytes: &[u8]) -> Result<Bundle, BundleError>
     ensures bundle { IfOk result (λ b. IsBundle bytes.now b.system b.evidence b.line) }
     ensures fault { IfErr result (IsBundleFault bytes.now) }
@@ -37,10 +37,10 @@ pub fn read_bundle(alloc: Global, bytes: &[u8]) -> Result<Bundle, BundleError>
     };
     let system = denoted(alloc, numbers)?;
     let first = line_number(bytes, lines.rest);
-    let evidence = read_evidence_behind(alloc, bytes, lines.rest)?;
+    let read = read_evidence_behind(alloc, bytes, lines.rest)?;
     Ok(Bundle {
         system,
-        evidence,
+        evidence: read.evidence,
         line: first,
     })
 }

@@ -68,7 +68,7 @@ pub fn load_spec<'a, H: Shelf>(
     }
 }
 
-/// The evidence of a text.
+/// The evidence of a text; a journal behind it is not judged.
 fn load_evidence<'a, H: Shelf>(
     alloc: Global,
     shelf: &mut H,
@@ -80,7 +80,7 @@ fn load_evidence<'a, H: Shelf>(
 {
     let bytes = load(alloc, shelf, name, LONGEST_EVIDENCE)?;
     match read_evidence(alloc, &bytes) {
-        Ok(evidence) => Ok(evidence),
+        Ok(read) => Ok(read.evidence),
         Err(ReadError::Fault(fault)) => Err(Halt::Ended(of_fault(fault))),
         Err(ReadError::Memory(error)) => Err(Halt::Memory(error)),
     }

@@ -2,4 +2,5 @@ pub mod EvidenceLaws
 pub mod KindLaws
 pub mod HeaderLaws
 pub mod LastLaws
+pub mod TailLaws
 pub mod TextLaws

@@ -8,7 +8,7 @@ use Rattle.ras_evidence.specs.declared.fault.EvidenceFault.{EvidenceFault}
 use Rattle.ras_evidence.specs.declared.reading.ReadError.{ReadError}
 use Rattle.ras_evidence.specs.declared.reading.ReadError.TheVariants.{Fault, Memory}
 use Rattle.ras_evidence.specs.Headers.{header_line, IsWrittenHeader}
-use Rattle.ras_evidence.specs.EvidenceTexts.{AreSomeEvidence}
+use Rattle.ras_evidence.specs.EvidenceTexts.{AreSomeText}
 
 -- the first line is the header
 abbrev pub IsHeaderOf : List (List ℕ) → Header → Type 0
@@ -25,8 +25,8 @@ IsLineOf lines left n = n + length left ≡ length lines + 1
 -- What is wrong in lines, of which the left ones begin with the one at fault, and behind which stands the rest of one that is not ended.
 abbrev pub IsTextFault : List (List ℕ) → List (List ℕ) → List ℕ → EvidenceKind → Type 0
 IsTextFault lines left rest Version = HasOtherVersion lines × (left ≡ lines)
-IsTextFault lines left rest Text = (HasOtherVersion lines → ⊥) × (0 < length left) × IsMisfit AreSomeEvidence lines left
-IsTextFault lines left rest Ended = (left ≡ []) × Begins AreSomeEvidence lines × (AreSomeEvidence lines → rest ≢ [])
+IsTextFault lines left rest Text = (HasOtherVersion lines → ⊥) × (0 < length left) × IsMisfit AreSomeText lines left
+IsTextFault lines left rest Ended = (left ≡ []) × Begins AreSomeText lines × (AreSomeText lines → rest ≢ [])
 
 -- the bytes are these lines and a rest, and this is their first fault
 pub record IsFirstFault (bytes : List ℕ) (f : EvidenceFault) : Type 0 where

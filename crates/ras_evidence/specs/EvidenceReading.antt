@@ -1,12 +1,13 @@
 -- How an evidence of each kind is read.
-use Rattle.std.specs.Prelude.{ℕ, List, Ok, Err, codes, ◌==◌, if◌then◌else◌}
+use Rattle.std.specs.Prelude.{ℕ, List, [], ◌∷◌, Option, Some, None, Result, Ok, Err, codes, ◌==◌, if◌then◌else◌}
 use Rattle.ras_logic.specs.declared.problem.Problem.{Problem}
 use Rattle.ras_logic.specs.declared.raw_db.RawDb.{RawDb}
 use Rattle.ras_steps.specs.declared.run.Run.{Run}
 use Rattle.ras_lines.specs.Fronts.{Front, follow, chain, made, times}
 use Rattle.ras_lines.specs.Numbers.{fixed}
 use Rattle.ras_lines.specs.Formulas.{cube}
-use Rattle.ras_lines.specs.Sections.{at_line, count}
+use Rattle.ras_lines.specs.declared.stop.Stop.{Stop}
+use Rattle.ras_lines.specs.Sections.{at_line, count, nothing}
 use Rattle.ras_runs.specs.Reading.{database, run}
 use Rattle.ras_evidence.specs.declared.header.Verdict.{Verdict}
 use Rattle.ras_evidence.specs.declared.header.Verdict.TheVariants as says
@@ -16,6 +17,9 @@ use Rattle.ras_evidence.specs.declared.safe.SafeEvidence.{SafeEvidence}
 use Rattle.ras_evidence.specs.declared.value.Entry.{Entry}
 use Rattle.ras_evidence.specs.declared.value.Evidence.{Evidence}
 use Rattle.ras_evidence.specs.declared.value.Evidence.TheVariants.{Safe, Unsafe, Unknown}
+use Rattle.ras_journals.specs.JournalReading.{journal}
+use Rattle.ras_evidence.specs.declared.read.Read.{Read}
+use Rattle.ras_evidence.specs.EvidenceTexts.{Told, told}
 use Rattle.ras_evidence.specs.Headers.{verdict}
 use Rattle.ras_evidence.specs.SafeReading.{to_end, safe_parts}
 
@@ -89,3 +93,20 @@ behind_first l lines = parts_of l.verdict lines
 
 abbrev pub evidence : List (List ℕ) → Front (List ℕ) Evidence
 evidence lines = follow (at_line first_line lines) behind_first
+
+-- A thing, and another behind it or no line.
+
+abbrev pub tail_of : {X Y : Type 0} → (List (List ℕ) → Front (List ℕ) Y) → X → List (List ℕ) → Front (List ℕ) (X × Option Y)
+tail_of g x [] = Ok ((x, None), [])
+tail_of g x (l ∷ lines) = follow (g (l ∷ lines)) (λ y rest. nothing (x, Some y) rest)
+
+abbrev pub with_tail : {X Y : Type 0} → (List (List ℕ) → Front (List ℕ) X) → (List (List ℕ) → Front (List ℕ) Y) → List (List ℕ) → Front (List ℕ) (X × Option Y)
+with_tail f g lines = follow (f lines) (tail_of g)
+
+-- an evidence, and a journal or nothing
+abbrev pub whole : List (List ℕ) → Front (List ℕ) Told
+whole lines = with_tail evidence journal lines
+
+abbrev pub read_as : Result Read Stop → Result Told Stop
+read_as (Ok r) = Ok (told r)
+read_as (Err stop) = Err stop

@@ -1,12 +1,17 @@
 ghost use Rattle.std.specs.Prelude.{◌≡◌, ◌⊎◌, ℕ, List};
 ghost use Rattle.ras_evidence.specs.declared.value.Evidence.{Evidence};
 ghost use Rattle.ras_evidence.specs.declared.fault.EvidenceFault.{EvidenceFault};
-ghost use Rattle.ras_evidence.specs.EvidenceTexts.{IsEvidenceText};
+ghost use Rattle.ras_evidence.specs.EvidenceTexts.{Told, IsTextOf, IsEvidenceText};
 ghost use Rattle.ras_evidence.specs.EvidenceFaults.{IsFirstFault};
 
 /// Bytes are the text of one evidence at most, of whatever kind.
 pub fn bytes_have_one_evidence()
     ensures { (bytes : List ℕ) (e d : Evidence) → IsEvidenceText bytes e → IsEvidenceText bytes d → e ≡ d }
+{}
+
+/// Bytes are the text of one evidence and one journal at most.
+pub fn bytes_have_one_text()
+    ensures { (bytes : List ℕ) (t u : Told) → IsTextOf bytes t → IsTextOf bytes u → t ≡ u }
 {}
 
 /// Bytes have one first fault at most.

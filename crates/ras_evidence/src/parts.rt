@@ -1,12 +1,13 @@
 ghost use Rattle.ras_lines.specs.Lines.{lines_of};
 ghost use Rattle.ras_lines.specs.Fronts.{Reads};
-ghost use Rattle.ras_lines.specs.Sections.{only};
 ghost use Rattle.ras_evidence.specs.EvidenceReading as first;
 
 use crate::entries::{entries, entry};
 use crate::header::Verdict;
+use crate::read::Read;
 use crate::safe::{SafeEvidence, safe_parts};
 use crate::value::Evidence;
+use ras_journals::read_journal;
 use ras_lines::{Lines, Spelled, Stop, Words, line_count};
 use ras_runs::{read_database, read_run};
 use std::alloc::Global;
@@ -64,14 +65,23 @@ fn any_evidence(lines: &mut Lines<'_>, alloc: Global) -> Result<Evidence, Stop>
     }
 }
 
-/// An evidence with no whole line behind it.
-#[tactic(auto, using(crate::proofs::HeaderLaws::nothing_laws))]
-pub fn only_evidence(lines: &mut Lines<'_>, alloc: Global) -> Result<Evidence, Stop>
-    ensures { Reads (only first.evidence) (lines_of lines.old.rest.now) (lines_of lines.new.rest.now) result }
+/// An evidence, and a journal behind it or no whole line.
+pub fn whole_text(lines: &mut Lines<'_>, alloc: Global) -> Result<Read, Stop>
+    ensures { Reads first.whole (lines_of lines.old.rest.now) (lines_of lines.new.rest.now) (first.read_as result) }
 {
     let evidence = any_evidence(lines, alloc)?;
+    if line_count(lines.rest) == 0 {
+        return Ok(Read {
+            evidence,
+            journal: None,
+        });
+    }
+    let journal = read_journal(lines, alloc)?;
     if line_count(lines.rest) > 0 {
         return Err(Stop::Misfit);
     }
-    Ok(evidence)
+    Ok(Read {
+        evidence,
+        journal: Some(journal),
+    })
 }

@@ -1,13 +1,13 @@
 ghost use Rattle.std.specs.Prelude.{◌≤◌, length, IfOk, IfErr};
 ghost use Rattle.ras_lines.specs.Lines.{lines_of};
-ghost use Rattle.ras_evidence.specs.EvidenceTexts.{AreEvidenceLines, IsEvidenceText};
+ghost use Rattle.ras_evidence.specs.EvidenceTexts.{told, AreTextLines, IsTextOf};
 ghost use Rattle.ras_evidence.specs.EvidenceFaults.{AnswersVersion, IsEnded, IsKindOf, IsFaultBehind, IsLineOf, IsReadFault};
 
 use crate::fault::{EvidenceFault, EvidenceKind};
 use crate::header::Header;
-use crate::parts::only_evidence;
+use crate::parts::whole_text;
 use crate::places::{is_ended, line_number};
-use crate::value::Evidence;
+use crate::read::Read;
 use ras_lines::{Lines, Stop, line_count};
 use std::alloc::{AllocError, Global};
 use thiserror::Error;
@@ -52,15 +52,11 @@ fn fault_at(bytes: &[u8], rest: &[u8]) -> EvidenceFault
     EvidenceFault { line, kind }
 }
 
-/// The evidence that stands at the end of the bytes, behind lines that were read before. A fault's line is counted from the
-/// first of the bytes. Want of memory may come at any bytes.
-pub fn read_evidence_behind(
-    alloc: Global,
-    bytes: &[u8],
-    behind: &[u8],
-) -> Result<Evidence, ReadError>
+/// The evidence that stands at the end of the bytes, behind lines that were read before, and its journal, which is read and
+/// not judged. A fault's line is counted from the first of the bytes. Want of memory may come at any bytes.
+pub fn read_evidence_behind(alloc: Global, bytes: &[u8], behind: &[u8]) -> Result<Read, ReadError>
     requires { length (lines_of behind.now) ≤ length (lines_of bytes.now) }
-    ensures evidence { IfOk result (AreEvidenceLines (lines_of behind.now)) }
+    ensures text { IfOk result (λ r. AreTextLines (lines_of behind.now) (told r)) }
     ensures ended { IfOk result (λ _. IsEnded bytes.now) }
     ensures fault { IfErr result (IsFaultBehind bytes.now (lines_of behind.now)) }
 {
@@ -76,10 +72,10 @@ pub fn read_evidence_behind(
         Err(error) => return Err(ReadError::Memory(error)),
     }
     let mut lines = Lines { rest: behind };
-    match only_evidence(&mut lines, alloc) {
-        Ok(evidence) => {
+    match whole_text(&mut lines, alloc) {
+        Ok(read) => {
             if is_ended(bytes) {
-                Ok(evidence)
+                Ok(read)
             } else {
                 Err(ReadError::Fault(fault_at(bytes, lines.rest)))
             }
@@ -89,9 +85,9 @@ pub fn read_evidence_behind(
     }
 }
 
-/// The evidence of which the bytes are the text. Want of memory may come at any bytes.
-pub fn read_evidence(alloc: Global, bytes: &[u8]) -> Result<Evidence, ReadError>
-    ensures evidence { IfOk result (IsEvidenceText bytes.now) }
+/// The evidence and the journal of which the bytes are the text. Want of memory may come at any bytes.
+pub fn read_evidence(alloc: Global, bytes: &[u8]) -> Result<Read, ReadError>
+    ensures text { IfOk result (λ r. IsTextOf bytes.now (told r)) }
     ensures fault { IfErr result (IsReadFault bytes.now) }
 {
     read_evidence_behind(alloc, bytes, bytes)

@@ -33,7 +33,7 @@ ended l = l ++ end_of_line
 one_line : (l : Line) → written (l ∷ []) ≡ ended l
 one_line l = append-nil (ended l)
 
-both : (a b : List Line) → written (a ++ b) ≡ written a ++ written b
+pub both : (a b : List Line) → written (a ++ b) ≡ written a ++ written b
 both a b = flat_map-append ended a b
 
 -- Sections.
@@ -55,7 +55,7 @@ section_same : {X : Type 0} (word : List ℕ) (text : X → List Line) (p : X �
     → piece.section word p xs ≡ written (count_line word (length xs) ∷ flat_map text xs)
 section_same word text p same xs = count_is word (length xs) (flat_map p xs) ∙ ap (λ (w : List ℕ). ended (count_line word (length xs)) ++ w) (each text p same xs)
 
-section_of_lines : {X : Type 0} (word : List ℕ) (line : X → Line) (p : X → List ℕ) → ((x : X) → p x ≡ ended (line x)) → (xs : List X) → piece.section word p xs ≡ written (lines.section word line xs)
+pub section_of_lines : {X : Type 0} (word : List ℕ) (line : X → Line) (p : X → List ℕ) → ((x : X) → p x ≡ ended (line x)) → (xs : List X) → piece.section word p xs ≡ written (lines.section word line xs)
 section_of_lines word line p same xs =
     section_same word (λ x. line x ∷ []) p (λ x. same x ∙ sym (one_line (line x))) xs ∙ ap (λ (ls : List Line). written (count_line word (length xs) ∷ ls)) (each_line line xs)
 
@@ -67,18 +67,24 @@ behind word a b = sym (append_assoc word a b)
 numbers_same : (word : List ℕ) (ns : List ℕ) → piece.numbers word ns ≡ ended (numbers_line word ns)
 numbers_same word ns = behind word (counted word_of ns) end_of_line ∙ ap (λ (w : List ℕ). ended (word ++ w)) (sym (spaced-counted decimal ns))
 
+two_words : {X Y : Type 0} (f : X → List ℕ) (g : Y → List ℕ) (xs : List X) (ys : List Y)
+    → counted (λ x. 32 ∷ f x) xs ++ counted (λ y. 32 ∷ g y) ys ≡ spaced (lines.counted (map f xs) ++ lines.counted (map g ys))
+two_words f g xs ys =
+    ap (λ (w : List ℕ). w ++ counted (λ y. 32 ∷ g y) ys) (sym (spaced-counted f xs)) ∙ ap (λ (w : List ℕ). spaced (lines.counted (map f xs)) ++ w) (sym (spaced-counted g ys))
+    ∙ sym (flat_map-append (λ (w : List ℕ). 32 ∷ w) (lines.counted (map f xs)) (lines.counted (map g ys)))
+
 two_counts : {X Y : Type 0} (word : List ℕ) (f : X → List ℕ) (g : Y → List ℕ) (xs : List X) (ys : List Y)
     → word ++ (counted (λ x. 32 ∷ f x) xs ++ (counted (λ y. 32 ∷ g y) ys ++ end_of_line)) ≡ ended (word ++ spaced (lines.counted (map f xs) ++ lines.counted (map g ys)))
 two_counts word f g xs ys =
     let A = counted (λ x. 32 ∷ f x) xs in
     let B = counted (λ y. 32 ∷ g y) ys in
-    let joined : spaced (lines.counted (map f xs) ++ lines.counted (map g ys)) ≡ A ++ B =
-    flat_map-append (λ (w : List ℕ). 32 ∷ w) (lines.counted (map f xs)) (lines.counted (map g ys)) ∙ ap (λ (w : List ℕ). w ++ spaced (lines.counted (map g ys))) (spaced-counted f xs)
-    ∙ ap (λ (w : List ℕ). A ++ w) (spaced-counted g ys) in
-    ap (λ (w : List ℕ). word ++ w) (behind A B end_of_line) ∙ behind word (A ++ B) end_of_line ∙ ap (λ (w : List ℕ). ended (word ++ w)) (sym joined)
+    ap (λ (w : List ℕ). word ++ w) (behind A B end_of_line) ∙ behind word (A ++ B) end_of_line ∙ ap (λ (w : List ℕ). ended (word ++ w)) (two_words f g xs ys)
+
+pub cube_words_same : (p : Problem) → piece.cube_words p ≡ cube_line p
+cube_words_same p = ap (λ (w : List ℕ). codes "cube" ++ w) (two_words relation_word literal_word p.rows p.literals)
 
 cube_same : (p : Problem) → piece.cube p ≡ ended (cube_line p)
-cube_same p = two_counts (codes "cube") relation_word literal_word p.rows p.literals
+cube_same p = ap ended (cube_words_same p)
 
 choice_same : (c : Choice) → piece.choice c ≡ ended (step_line c)
 choice_same c =

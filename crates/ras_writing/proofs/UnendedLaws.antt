@@ -1,6 +1,6 @@
 -- No line of an evidence that can be written has a line feed in it.
 use Rattle.std.proofs.Common.{◌≡◌, ◌≢◌, ℕ, ◌^◌, ◌<◌, List, [], ◌∷◌, ◌++◌, length, map, flat_map, Bool, true, false, eqb, refl, sym, ap, subst, ◌∙◌, arith, append-nil, codes}
-use Rattle.std.specs.Prelude.{not, ◌==◌, ◌&&◌}
+use Rattle.std.specs.Prelude.{not, ◌==◌, ◌&&◌, Option, Some, None, IfSome}
 use Rattle.std.specs.List.{AllByRecursion}
 use Rattle.std.specs.Fmt.{decimal}
 use Rattle.std.specs.Str.{all_ascii_digits}
@@ -35,7 +35,12 @@ use Rattle.ras_evidence.specs.declared.value.Entry.{Entry}
 use Rattle.ras_evidence.specs.declared.value.Evidence.{Evidence}
 use Rattle.ras_evidence.specs.declared.value.Evidence.TheVariants.{Safe, Unsafe, Unknown}
 use Rattle.ras_evidence.specs.Headers.{verdict_word}
-use Rattle.ras_evidence.specs.EvidenceTexts.{verdict_of, entry_lines, parts_lines, evidence_lines, IsWrittenEntry, IsWritable, IsEvidenceText}
+use Rattle.ras_core.specs.declared.origin.Origin.{Origin}
+use Rattle.ras_core.specs.declared.origin.Origin.TheVariants.{Goal, Step}
+use Rattle.ras_core.specs.declared.event.Event.{Event}
+use Rattle.ras_core.specs.declared.event.Event.TheVariants.{Claim, Admit, Skip, Drop, Done, GiveBack, Hit, Spill, Idle}
+use Rattle.ras_journals.specs.JournalTexts.{origin_words, event_line, journal_lines, IsWrittenOrigin, IsWrittenEvent, IsWrittenJournal}
+use Rattle.ras_evidence.specs.EvidenceTexts.{verdict_of, entry_lines, parts_lines, evidence_lines, optional_lines, text_lines, Told, IsWrittenEntry, IsWritable, IsWritableText, IsTextOf}
 
 abbrev Line : Type 0
 Line = List ℕ
@@ -209,9 +214,39 @@ lines_are e w = (
   both (parts_lines e) (codes "end" ∷ []) (parts_are e w) (plain_is (codes "end") refl, tt),
 )
 
-pub text_is : (e : Evidence) → IsWritable e → IsEvidenceText (written (evidence_lines e)) e
-text_is e w = record { lines = record { parts = sym (append-nil (written (evidence_lines e))); single = lines_are e w; unended = tt }; writable = w }
+-- Journals.
+
+origin_is : (o : Origin) → IsWrittenOrigin o → AllByRecursion HasNoLineFeed (origin_words o)
+origin_is (Goal disjunct) w = (plain_is (codes "goal") refl, (number_is disjunct (omega (arith, w)), tt))
+origin_is (Step entry transition) w = (plain_is (codes "step") refl, (number_is entry w.0, (number_is transition (let small = w.1 in omega (arith, small)), tt)))
+
+sought_is : (word : List ℕ) → HasNoLineFeed word → (o : Origin) (c : Problem) → IsWrittenOrigin o → IsSmallCube c → HasNoLineFeed (line word (origin_words o ++ cube_line c ∷ []))
+sought_is word plain o c origin cube = line_is word (origin_words o ++ cube_line c ∷ []) plain (both (origin_words o) (cube_line c ∷ []) (origin_is o origin) (cube_is c cube, tt))
+
+event_is : (e : Event) → IsWrittenEvent e → HasNoLineFeed (event_line e)
+event_is (Claim entry) w = line_is (codes "claim") (decimal entry ∷ []) (plain_is (codes "claim") refl) (number_is entry w, tt)
+event_is (Admit o c) w = sought_is (codes "admit") (plain_is (codes "admit") refl) o c w.0 w.1
+event_is (Skip o c reasons) w =
+    line_is (codes "skip") (origin_words o ++ cube_line c ∷ codes "reasons" ∷ counted (map decimal reasons)) (plain_is (codes "skip") refl)
+    (both (origin_words o) (cube_line c ∷ codes "reasons" ∷ counted (map decimal reasons)) (origin_is o w.0.0)
+    (cube_is c w.0.1, (plain_is (codes "reasons") refl, numbers_are reasons w.1)))
+event_is (Drop entry by) w = line_is (codes "drop") (decimal entry ∷ decimal by ∷ []) (plain_is (codes "drop") refl) (number_is entry w.0, (number_is by w.1, tt))
+event_is (Done entry) w = line_is (codes "done") (decimal entry ∷ []) (plain_is (codes "done") refl) (number_is entry w, tt)
+event_is (GiveBack entry) w = line_is (codes "back") (decimal entry ∷ []) (plain_is (codes "back") refl) (number_is entry w, tt)
+event_is (Hit o c) w = sought_is (codes "hit") (plain_is (codes "hit") refl) o c w.0 w.1
+event_is (Spill o c) w = sought_is (codes "spill") (plain_is (codes "spill") refl) o c w.0 w.1
+event_is Idle w = plain_is (codes "idle") refl
+
+journal_is : (o : Option (List Event)) → IfSome o IsWrittenJournal → AreClean (optional_lines journal_lines o)
+journal_is None w = tt
+journal_is (Some events) w = section_is (codes "journal") event_line IsWrittenEvent (plain_is (codes "journal") refl) event_is events w
+
+text_clean : (t : Told) → IsWritableText t → AreClean (text_lines t)
+text_clean t w = both (evidence_lines t.0) (optional_lines journal_lines t.1) (lines_are t.0 w.0) (journal_is t.1 w.1)
+
+pub text_is : (t : Told) → IsWritableText t → IsTextOf (written (text_lines t)) t
+text_is t w = record { lines = record { parts = sym (append-nil (written (text_lines t))); single = text_clean t w; unended = tt }; writable = w }
 
 -- what is written is the text
-pub text_of : (bytes : List ℕ) (e : Evidence) → bytes ≡ written (evidence_lines e) → IsWritable e → IsEvidenceText bytes e
-text_of bytes e is w = subst (λ (bs : List ℕ). IsEvidenceText bs e) (sym is) (text_is e w)
+pub text_of : (bytes : List ℕ) (t : Told) → bytes ≡ written (text_lines t) → IsWritableText t → IsTextOf bytes t
+text_of bytes t is w = subst (λ (bs : List ℕ). IsTextOf bs t) (sym is) (text_is t w)

@@ -38,8 +38,12 @@ term t = base_word t.base ++ flat_map function t.path
 abbrev pub literal : Literal → List ℕ
 literal l = codes " " ++ literal_word l
 
+-- a cube, without the end of the line
+abbrev pub cube_words : Problem → List ℕ
+cube_words p = codes "cube" ++ (counted relation p.rows ++ counted literal p.literals)
+
 abbrev pub cube : Problem → List ℕ
-cube p = codes "cube" ++ (counted relation p.rows ++ (counted literal p.literals ++ end_of_line))
+cube p = cube_words p ++ end_of_line
 
 abbrev pub node : Node → List ℕ
 node Leaf = codes " leaf"

@@ -1,10 +1,13 @@
 ghost use Rattle.std.specs.Prelude.{◌≡◌, ◌++◌, List, IfOk, OnOk};
 ghost use Rattle.ras_lines.specs.Lines.{written};
-ghost use Rattle.ras_evidence.specs.EvidenceTexts.{evidence_lines, IsWritable, IsEvidenceText};
+ghost use Rattle.std.specs.Option.{option_map};
+ghost use Rattle.ras_evidence.specs.EvidenceTexts.{text_lines, IsWritableText, IsTextOf};
 ghost use Rattle.ras_writing.specs.Pieces as piece;
+ghost use Rattle.ras_writing.specs.EventPieces as event_piece;
 
 use crate::put::{Written, put_section};
 use crate::runs::{put_database, put_run};
+use ras_core::Journal;
 use ras_evidence::{Entry, Evidence};
 use ras_logic::{Cube, List, RawDb, Shared, Tree};
 use ras_steps::Run;
@@ -62,14 +65,29 @@ fn put_evidence(out: &mut Vec<u8>, evidence: &Evidence) -> Result<(), AllocError
     }
 }
 
-/// The lines of the evidence, each with its end. They are its text where it can be written: its trees are whole, its lists have
-/// fewer than 2^32 items, and an evidence of UNKNOWN has at least one entry before the spill.
-#[tactic(auto, using(crate::proofs::PieceLaws::evidence_same))]
-pub fn write_evidence(alloc: Global, evidence: &Evidence) -> Result<Vec<u8>, AllocError>
-    ensures lines { IfOk result (λ bytes. bytes.items ≡ written (evidence_lines evidence.now)) }
-    ensures text { IfOk result (λ bytes. IsWritable evidence.now → IsEvidenceText bytes.items evidence.now) }
+/// The lines of a journal, or none.
+fn put_journal(out: &mut Vec<u8>, journal: Option<&Journal>) -> Result<(), AllocError>
+    ensures { OnOk result (out.new.items ≡ out.old.items ++ event_piece.journal (option_map (λ j. j.now.events) journal.entry)) }
+{
+    match journal {
+        Some(journal) => put_section(out, b"journal", journal.events()),
+        None => Ok(()),
+    }
+}
+
+/// The lines of the evidence and of the journal behind it, each with its end. They are their text where it can be written: its
+/// trees are whole, its lists have fewer than 2^32 items, and an evidence of UNKNOWN has at least one entry before the spill.
+pub fn write_evidence(
+    alloc: Global,
+    evidence: &Evidence,
+    journal: Option<&Journal>,
+) -> Result<Vec<u8>, AllocError>
+    ensures lines { IfOk result (λ bytes. bytes.items ≡ written (text_lines (evidence.now, option_map (λ j. j.now.events) journal.entry))) }
+    ensures text { IfOk result (λ bytes. IsWritableText (evidence.now, option_map (λ j. j.now.events) journal.entry)
+        → IsTextOf bytes.items (evidence.now, option_map (λ j. j.now.events) journal.entry)) }
 {
     let mut out = Vec::new(alloc);
     put_evidence(&mut out, evidence)?;
+    put_journal(&mut out, journal)?;
     Ok(out)
 }

@@ -71,13 +71,20 @@ impl Written for Literal {
     }
 }
 
+/// The words of a cube, without the end of the line.
+pub fn put_cube(out: &mut Vec<u8>, cube: &Cube) -> Result<(), AllocError>
+    ensures { OnOk result (out.new.items ≡ out.old.items ++ piece.cube_words cube.now) }
+{
+    put(out, b"cube")?;
+    put_counted(out, cube.rows())?;
+    put_counted(out, cube.literals())
+}
+
 impl Written for Cube {
     ghost text = { piece.cube };
 
     fn write(&self, out: &mut Vec<u8>) -> Result<(), AllocError> {
-        put(out, b"cube")?;
-        put_counted(out, self.rows())?;
-        put_counted(out, self.literals())?;
+        put_cube(out, self)?;
         put(out, b"\n")
     }
 }

@@ -1,17 +1,16 @@
 ghost use Rattle.std.specs.Prelude.{◌≡◌};
 ghost use Rattle.ras_lines.specs.Lines.{written};
-ghost use Rattle.ras_evidence.specs.declared.value.Evidence.{Evidence};
 ghost use Rattle.ras_evidence.specs.declared.fault.EvidenceFault.{EvidenceFault};
 ghost use Rattle.ras_evidence.specs.EvidenceFaults.{IsFirstFault};
-ghost use Rattle.ras_evidence.specs.EvidenceTexts.{evidence_lines, IsWritable, IsEvidenceText};
+ghost use Rattle.ras_evidence.specs.EvidenceTexts.{Told, text_lines, IsWritableText, IsTextOf};
 
-/// The lines of an evidence that can be written, each with its end, are its text.
+/// The lines of an evidence and a journal that can be written, each with its end, are their text.
 pub fn a_writable_evidence_has_its_text()
-    ensures { (e : Evidence) → IsWritable e → IsEvidenceText (written (evidence_lines e)) e }
+    ensures { (t : Told) → IsWritableText t → IsTextOf (written (text_lines t)) t }
 {}
 
-/// What is read of the text that was written of an evidence is this evidence, and no fault.
+/// What is read of the text that was written of an evidence and a journal are these, and no fault.
 pub fn what_is_written_is_read_again()
-    ensures value { (e d : Evidence) → IsWritable e → IsEvidenceText (written (evidence_lines e)) d → d ≡ e }
-    ensures no_fault { (e : Evidence) (f : EvidenceFault) → IsWritable e → IsFirstFault (written (evidence_lines e)) f → ⊥ }
+    ensures value { (t u : Told) → IsWritableText t → IsTextOf (written (text_lines t)) u → u ≡ t }
+    ensures no_fault { (t : Told) (f : EvidenceFault) → IsWritableText t → IsFirstFault (written (text_lines t)) f → ⊥ }
 {}

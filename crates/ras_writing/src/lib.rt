@@ -2,6 +2,7 @@
 //! bytes are the lines of the evidence, each with its end.
 #![tactic(auto)]
 
+mod events;
 mod evidences;
 mod formulas;
 mod law;
@@ -9,5 +10,6 @@ mod put;
 mod runs;
 mod trees;
 
+pub use events::write_event;
 pub use evidences::write_evidence;
 pub use law::{a_writable_evidence_has_its_text, what_is_written_is_read_again};

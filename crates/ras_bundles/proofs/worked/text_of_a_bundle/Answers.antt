@@ -9,4 +9,4 @@ abbrev numbers : SystemLines
 numbers = record { sorts = 1; functions = []; constants = record { sorts = [] }; variables = record { sort = 0; initial = None } ∷ []; transitions = []; goals = not_undef ∷ [] }
 
 pub returns : goal.returns
-returns c = bundle_read one_variable_text _ numbers never_other 10 refl refl refl refl refl
+returns c = bundle_read one_variable_text _ numbers (never_other, None) 10 refl refl refl refl refl
