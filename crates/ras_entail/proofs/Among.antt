@@ -24,7 +24,7 @@ use Rattle.ras_entail.specs.EscapeStates.{IsStateOfRows}
 use Rattle.ras_entail.specs.Entailment.{IsAmong, Escapes}
 use Rattle.ras_entail.specs.Scans.{AreEnough}
 use Rattle.ras_entail.proofs.EscapeStates.{rows-state, rows-meet, meets-rows, chosen-meet}
-use Rattle.ras_entail.proofs.ListPairs.{both}
+use Rattle.ras_logic.proofs.ByPlace.{no_true}
 
 -- a premise that a tree closes is among the list
 pub closed-among : (shape : ShapeParts) (premise : Problem) (list : List Problem) (nodes : List Node) → IsSchema shape.schema → Fits shape premise → All (Fits shape) list → All IsCube list
@@ -45,7 +45,7 @@ holds-unfalsified d v premise list some fails =
     some.literals among.0 (f fails.literal) (omega (arith, among.1, length-map some.formula.literals f)) in
     let at : get_or (map f some.formula.literals) among.0 (f fails.literal) ≡ f fails.literal =
     get_or-map f some.formula.literals among.0 fails.literal (f fails.literal) among.1 ∙ ap f among.2 in
-    both (holds d v (f fails.literal)) (subst (λ (l : Literal). IsTrue (holds d v l)) at here) fails.fails
+    no_true (holds d v (f fails.literal)) (subst (λ (l : Literal). IsTrue (holds d v l)) at here) fails.fails
 
 -- where the instances are enough, and all of them are falsified, no cube of the list holds of rows of the premise
 none-hold : (shape : ShapeParts) (premise : Problem) (list : List Problem) (instances : List Instance) (d : RawDb) (v : Values) → AreEnough shape premise list instances

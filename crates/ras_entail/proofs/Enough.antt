@@ -1,6 +1,6 @@
 -- Which instances a scan of a list finds.
-use Rattle.std.proofs.Common.{◌≡◌, ℕ, ◌+◌, ◌<◌, ◌≤◌, List, [], ◌∷◌, ◌++◌, length, get_or, true, false, refl, sym, ◌∙◌, ap, subst, arith, ◌⊎◌, inl, inr, ⊎_elim}
-use Rattle.std.specs.Prelude.{slice_get, Option, Some, None, MatchOption, All, Contains}
+use Rattle.std.proofs.Common.{◌≡◌, ℕ, ◌+◌, ◌<◌, ◌≤◌, List, [], ◌∷◌, ◌++◌, length, get_or, false, refl, sym, ◌∙◌, ap, subst, arith, ◌⊎◌, inl, inr, ⊎_elim}
+use Rattle.std.specs.Prelude.{slice_get, Option, Some, None, MatchOption, Contains}
 use Rattle.std.specs.Option.{is_some}
 use Rattle.std.proofs.lemmas.List.Elements.{All-contains, Contains-get_or, Contains-append_left, Contains-push, Contains-push_cases}
 use Rattle.std.proofs.lemmas.Option.{slice_get_within, same_Some}
@@ -9,11 +9,11 @@ use Rattle.ras_logic.specs.Shapes.{ShapeParts}
 use Rattle.ras_logic.specs.Refutations.{AreRowsOf}
 use Rattle.ras_sat.specs.declared.instance.Instance.{Instance}
 use Rattle.ras_sat.specs.Instances.{IsInstance, IsFalsified}
-use Rattle.ras_entail.specs.Knowledge.{HasFailing}
-use Rattle.ras_entail.specs.RowMaps.{AreRowMaps}
+use Rattle.ras_entail.specs.Judgements.{HasFailing}
+use Rattle.ras_row_maps.specs.RowMaps.{AreRowMaps}
 use Rattle.ras_entail.specs.Scans.{FailsUnder, instance, AddsMap, AddsMaps, AddsInstances, IsHeld, IsHeldIn, AreEnoughBelow, AreEnough}
 use Rattle.ras_entail.proofs.FailingLiterals.{fails-falsified, alone-fails}
-use Rattle.ras_entail.proofs.ListPairs.{place_cases}
+use Rattle.ras_row_maps.proofs.ListPairs.{place_cases}
 
 pub of-none : {X : Type 0} (o : Option X) (A : Type 0) (B : X → Type 0) → is_some o ≡ false → MatchOption o A B → A
 of-none None A B e h = h

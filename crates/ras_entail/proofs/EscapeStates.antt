@@ -2,7 +2,7 @@
 use Rattle.std.proofs.Common.{◌≡◌, ℕ, zero, suc, ◌<◌, ◌≤◌, List, [], ◌∷◌, ◌++◌, length, map, get_or, refl, sym, ◌∙◌, ap, subst, arith, ◌⊎◌, inl, inr, ⊎_elim, length-append}
 use Rattle.std.specs.Prelude.{slice_get, Some, All, IsTrue}
 use Rattle.std.specs.List.{AllZip}
-use Rattle.std.proofs.lemmas.List.{get_or_append_left, get_or_push, get_or-map, length-map, same_lists}
+use Rattle.std.proofs.lemmas.List.{get_or_append_left, get_or_push, get_or-map, length-map, same_lists, get_or_default}
 use Rattle.std.proofs.lemmas.List.Elements.{All-map, All-weaker}
 use Rattle.std.proofs.lemmas.Option.{slice_get_within, slice_get-get_or, get_or_from_slice_get}
 use Rattle.ras_logic.specs.declared.ids.SortId.{SortId}
@@ -21,9 +21,8 @@ use Rattle.ras_system.specs.declared.state.State.{State}
 use Rattle.ras_system.specs.States.{rows_of, IsState, AreRows, cells_of, values_at, Meets, MeetsAny}
 use Rattle.ras_steps.proofs.NamedRows.{count_of, row_of}
 use Rattle.ras_entail.specs.EscapeStates.{IsStateOfRows}
-use Rattle.ras_entail.proofs.Longer.{get_or_any}
 use Rattle.ras_entail.proofs.Replacing.{holds-same}
-use Rattle.ras_entail.proofs.ListPairs.{place_cases}
+use Rattle.ras_row_maps.proofs.ListPairs.{place_cases}
 
 -- the cells of a chosen row
 pub cells-of_row : (s : State) (rows : List RelId) (chosen : List ℕ) (k : ℕ) (r : RelId) → length chosen ≡ length rows → slice_get rows k ≡ Some r
@@ -83,7 +82,7 @@ module _ (shape : ShapeParts) (d : RawDb) (rows : List RelId) (params : List Sor
   unfolding numbers
   place-of r k known =
       let h = (of.rows_are r).every k (slice_get_within rows k r known) known in
-      (h.0, record { within = omega (arith, h.1, count r); number = get_or_any (of.rows_are r).numbers h.0 0 k h.1 ∙ h.2 })
+      (h.0, record { within = omega (arith, h.1, count r); number = get_or_default (of.rows_are r).numbers h.0 0 k h.1 ∙ h.2 })
 
   record ArePlaces (n : ℕ) (chosen : List ℕ) : Type 0 where
     long : length chosen ≡ n
@@ -123,9 +122,9 @@ module _ (shape : ShapeParts) (d : RawDb) (rows : List RelId) (params : List Sor
       let r : RelId = get_or rows k (record { n = 0 }) in
       let known : slice_get rows k ≡ Some r = slice_get-get_or rows k (record { n = 0 }) within in
       let place = are.each k r within known in
-      get_or_any (cells_of s rows chosen) k e [] lt
+      get_or_default (cells_of s rows chosen) k e [] lt
       ∙ cells-of_row s rows chosen k r are.long known ∙ cells-at r (get_or chosen k 0) place.within ∙ ap (λ (j : ℕ). get_or v.rows j []) place.number
-      ∙ get_or_any v.rows k [] e (omega (arith, within, values.as_many_rows)))
+      ∙ get_or_default v.rows k [] e (omega (arith, within, values.as_many_rows)))
 
   -- it meets a problem whose rows they are, where the values satisfy it
   pub rows-meet : (literals : List Literal) → AllHold d v literals → Meets d s (record { rows = rows; params = params; literals = literals })

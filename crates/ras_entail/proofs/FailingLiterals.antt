@@ -1,6 +1,6 @@
 -- Literals that name no row, and instances that fail or hold.
-use Rattle.std.proofs.Common.{◌≡◌, ℕ, true, false, List, [], ◌∷◌, refl, sym, ◌∙◌, ap, subst}
-use Rattle.std.specs.Prelude.{slice_get, Some, All, Contains}
+use Rattle.std.proofs.Common.{◌≡◌, ℕ, true, false, List, [], ◌∷◌, refl, sym, ◌∙◌, subst}
+use Rattle.std.specs.Prelude.{slice_get, Some, Contains}
 use Rattle.std.proofs.lemmas.List.Elements.{All-nil, All-cons, All-head, All-contains}
 use Rattle.std.proofs.lemmas.Option.{same_Some}
 use Rattle.ras_logic.specs.declared.ids.SortId.{SortId}
@@ -23,7 +23,8 @@ use Rattle.ras_logic.specs.Refutations.{AreRowsOf, chosen_row}
 use Rattle.ras_logic.proofs.Closing.{replaced-fits}
 use Rattle.ras_sat.specs.declared.instance.Instance.{Instance}
 use Rattle.ras_sat.specs.Instances.{IsInstance, IsFalsified}
-use Rattle.ras_entail.specs.Knowledge.{IsTruth, IsNoCell, NamesNoRow, HasFailing}
+use Rattle.ras_known.specs.Knowledge.{IsTruth}
+use Rattle.ras_entail.specs.Judgements.{IsNoCell, NamesNoRow, HasFailing}
 use Rattle.ras_entail.specs.Scans.{FailsUnder, instance, IsHeldIn, AreEnough}
 
 no_row-term : (rows : List ℕ) (t : Term) → IsNoCell t.base → replace_term (chosen_row rows) t ≡ t

@@ -1,12 +1,8 @@
-pub mod ListPairs
 pub mod NumberedAt
-pub mod Longer
 pub mod StateRows
 pub mod Replacing
 pub mod EscapeStates
-pub mod KnownTruth
 pub mod FailingLiterals
 pub mod Enough
 pub mod Among
-pub mod Rooms
 pub mod StartStates

@@ -5,26 +5,22 @@ use Rattle.std.specs.List.{enumerate_from}
 use Rattle.std.specs.Option.{option_map_or}
 use Rattle.std.proofs.lemmas.Bool.{eqb-true, eq-eqb}
 use Rattle.std.proofs.lemmas.List.Elements.{All-append, All-map, All-weaker}
-use Rattle.std.proofs.lemmas.Option.{slice_get_within, slice_get-get_or, get_or_from_slice_get}
+use Rattle.std.proofs.lemmas.Option.{slice_get_within, slice_get-get_or}
 use Rattle.ras_logic.specs.declared.ids.SortId.{SortId}
 use Rattle.ras_logic.specs.declared.ids.RelId.{RelId}
 use Rattle.ras_logic.specs.declared.ids.ConstId.{ConstId}
 use Rattle.ras_logic.specs.declared.raw_db.RawDb.{RawDb}
 use Rattle.ras_logic.specs.declared.values.Values.{Values}
-use Rattle.ras_logic.specs.declared.term.Base.TheVariants.{Cell}
-use Rattle.ras_logic.specs.declared.term.Term.{Term}
 use Rattle.ras_logic.specs.declared.literal.Literal.{Literal}
 use Rattle.ras_logic.specs.declared.problem.Problem.{Problem}
-use Rattle.ras_logic.specs.Schemas.{IsSort}
 use Rattle.ras_logic.specs.Shapes.{IsRelation}
 use Rattle.ras_logic.specs.Databases.{IsDatabase}
-use Rattle.ras_logic.specs.Terms.{base_term, constant_term, undef_term, sort_of}
-use Rattle.ras_logic.specs.Formulas.{LiteralFits, Fits}
+use Rattle.ras_logic.specs.Terms.{constant_term, undef_term}
+use Rattle.ras_logic.specs.Formulas.{Fits}
 use Rattle.ras_logic.specs.Truth.{Satisfies, value, holds}
 use Rattle.ras_logic.specs.Clashes.{FactsClash}
 use Rattle.ras_logic.proofs.Clashes.{clash-none}
 use Rattle.ras_logic.proofs.Elements.{from_known}
-use Rattle.ras_logic.proofs.TermSorts.{sort_of-undef, sort_of-constant}
 use Rattle.ras_system.specs.declared.state.State.{State}
 use Rattle.ras_system.specs.States.{IsInitial, Meets, rows_of, cells_of, values_at, initial_value}
 use Rattle.ras_system.specs.Systems.{SystemParts, IsSystem}
@@ -35,10 +31,10 @@ use Rattle.ras_steps.specs.declared.witness.Witness.{Witness}
 use Rattle.ras_entail.specs.EscapeStates.{IsStateOfRows}
 use Rattle.ras_entail.specs.Starts.{IsModelState, MeetsAtStart, NoneMeetsAtStart}
 use Rattle.ras_entail.proofs.EscapeStates.{rows-state, rows-meet, cells-of_row}
-use Rattle.ras_entail.proofs.Longer.{get_or_any}
 use Rattle.ras_obligations.proofs.Numbered.{All-lists}
 use Rattle.ras_obligations.proofs.StartFits.{start-fits}
 use Rattle.ras_entail.proofs.NumberedAt.{All-left, All-right, numbered-at, lists-at}
+use Rattle.std.proofs.lemmas.List.{get_or_default}
 
 -- the value on the right of the literal of a variable's initial value
 initial-right : (system : SystemParts) (d : RawDb) (v : Values) (k : ℕ) (c : Option ConstId)
@@ -74,7 +70,7 @@ module _ (system : SystemParts) (good : IsSystem system) (f : Problem) (fits : F
           let row = lists-at Holds (λ (p : ℕ × RelId). undef_row system p.0 p.1) 0 f.rows (All-right Holds (f.literals ++ initial_vars system) (undef_cells system f.rows) satisfies.literals) k r here in
           let row_is : All Holds (undef_row system k r) = subst (λ (m : ℕ). All Holds (undef_row system m r)) (let same : 0 + k ≡ k = omega arith in same) row in
           let h = numbered-at Holds (λ (p : ℕ × SortId). undef_literal k p.0 p.1) columns row_is column u (slice_get-get_or columns column (record { n = 0 }) within) in
-          get_or_any (get_or v.rows k []) column e 0 lt ∙ eqb-true (get_or (get_or v.rows k []) column 0) 0 h
+          get_or_default (get_or v.rows k []) column e 0 lt ∙ eqb-true (get_or (get_or v.rows k []) column 0) 0 h
 
       pub start-initial : IsInitial system d s
       start-initial = record {
@@ -83,7 +79,7 @@ module _ (system : SystemParts) (good : IsSystem system) (f : Problem) (fits : F
         cells = λ n e lt.
             let r : RelId = record { n = n } in
             let are = of.rows_are r in
-            subst (All (All (λ (x : ℕ). x ≡ 0))) (sym are.found_are ∙ get_or_any s.relations n [] e lt)
+            subst (All (All (λ (x : ℕ). x ≡ 0))) (sym are.found_are ∙ get_or_default s.relations n [] e lt)
             (All-map (All (λ (x : ℕ). x ≡ 0)) (λ (k : ℕ). get_or v.rows k []) are.numbers
             (All-weaker (λ (k : ℕ). (k < length f.rows) × (slice_get f.rows k ≡ Some r)) (λ (k : ℕ). All (λ (x : ℕ). x ≡ 0) (get_or v.rows k [])) (λ k h. cell-undef k r h.1) are.numbers are.each));
       }
@@ -140,6 +136,8 @@ module _ (system : SystemParts) (good : IsSystem system) (f : Problem) (fits : F
   start-found w is = record {
     database = is.database;
     initial = start-initial w.db is.database is.values is.satisfies w.state is.rows;
+    values = is.values;
+    rows = is.rows;
     meets = start-meets w.db is.database is.values is.satisfies w.state is.rows;
   }
 

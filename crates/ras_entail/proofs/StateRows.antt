@@ -11,7 +11,7 @@ use Rattle.ras_logic.proofs.Elements.{from_known}
 use Rattle.ras_system.specs.declared.state.State.{State}
 use Rattle.ras_system.specs.States.{rows_of}
 use Rattle.ras_entail.specs.EscapeStates.{AreRowsBelow, IsStateOfRows}
-use Rattle.ras_entail.proofs.ListPairs.{place_cases}
+use Rattle.ras_row_maps.proofs.ListPairs.{place_cases}
 
 pub rows-none : (rows : List RelId) (cells : List (List ℕ)) (r : RelId) → AreRowsBelow rows cells r 0 []
 rows-none rows cells r = record {

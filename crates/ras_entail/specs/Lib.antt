@@ -1,7 +1,6 @@
-pub mod RowMaps
 pub mod EscapeStates
 pub mod Entailment
-pub mod Knowledge
+pub mod Judgements
 pub mod Scans
 pub mod Entails
 pub mod Starts

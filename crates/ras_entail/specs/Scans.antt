@@ -11,7 +11,7 @@ use Rattle.ras_logic.specs.Truth.{Satisfies}
 use Rattle.ras_logic.specs.Refutations.{AreRowsOf, chosen_row}
 use Rattle.ras_sat.specs.declared.instance.Instance.{Instance}
 use Rattle.ras_sat.specs.Instances.{IsInstance, IsFalsified}
-use Rattle.ras_entail.specs.Knowledge.{IsTruth}
+use Rattle.ras_known.specs.Knowledge.{IsTruth}
 
 -- under these rows some literal of the formula fails wherever the premise holds
 abbrev pub FailsUnder : ShapeParts → Problem → Problem → List ℕ → Type 0

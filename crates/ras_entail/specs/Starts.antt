@@ -11,10 +11,12 @@ use Rattle.ras_system.specs.States.{IsInitial, Meets}
 use Rattle.ras_steps.specs.declared.witness.Witness.{Witness}
 use Rattle.ras_entail.specs.EscapeStates.{IsStateOfRows}
 
--- an initial state of a database that meets the formula
+-- an initial state of a database that has just the formula's rows, and meets the formula
 pub record MeetsAtStart (system : SystemParts) (formula : Problem) (w : Witness) : Type 0 where
   pub database : IsDatabase system.shape.schema w.db
   pub initial : IsInitial system w.db w.state
+  pub values : Values
+  pub rows : IsStateOfRows system.shape formula.rows values w.state
   pub meets : Meets w.db w.state formula
 
 -- in no database an initial state meets the formula

@@ -1,16 +1,14 @@
-ghost use Rattle.std.specs.Prelude.{◌≡◌, ◌↔◌, ◌≤◌, [], ◌∷◌, length, All, IfOk};
+ghost use Rattle.std.specs.Prelude.{◌≡◌, ◌≤◌, [], ◌∷◌, length, All, IfOk};
 ghost use Rattle.ras_logic.specs.declared.tree.Node.TheVariants.{Leaf};
 ghost use Rattle.ras_logic.specs.Formulas.{Fits};
-ghost use Rattle.ras_logic.specs.Refutations.{Closes};
-ghost use Rattle.ras_entail.specs.Entailment.{IsAmong, Escapes};
-ghost use Rattle.ras_entail.specs.Knowledge.{IsKnown};
-ghost use Rattle.ras_entail.specs.Entails.{IfYes, IfEscape, IsYes, IsEntailment};
+ghost use Rattle.ras_known.specs.Knowledge.{IsKnown};
+ghost use Rattle.ras_entail.specs.Entails.{IsEntailment};
 
 use crate::entail::Entail;
-use crate::known::{Known, all_apart};
 use crate::scanning::{are_cubes, instances_of};
 use crate::witnesses::witness_of;
 use ras_closure::Closure;
+use ras_known::{Known, all_apart};
 use ras_logic::{Cube, List, Node, Problem, Shape, Shared, Tree};
 use ras_sat::{Decision, decide};
 use std::alloc::{AllocError, Global};
@@ -60,9 +58,7 @@ pub fn entails(
     requires premise { Fits shape.now premise.now }
     requires list { All (Fits shape.now) list.now }
     requires few { length list.now ≤ 4294967295 }
-    ensures yes { IfOk result (λ e. IfYes e (λ t. Closes shape.now.schema premise.now list.now t.nodes)) }
-    ensures escape { IfOk result (λ e. IfEscape e (Escapes shape.now premise.now list.now)) }
-    ensures exact { IfOk result (λ e. IsYes e ↔ IsAmong shape.now premise.now list.now) }
+    ensures { IfOk result (IsEntailment shape.now premise.now list.now) }
 {
     shape.known();
     are_cubes(list);

@@ -2,9 +2,10 @@ ghost use Rattle.std.specs.Prelude.{◌↔◌, [], false, IsTrue, IfOk, IfSome};
 ghost use Rattle.std.specs.Bool.{OnTrue};
 ghost use Rattle.ras_logic.specs.Formulas.{LiteralFits, Fits, replace};
 ghost use Rattle.ras_logic.specs.Refutations.{AreRowsOf, chosen_row};
-ghost use Rattle.ras_entail.specs.Knowledge.{IsTruth, IsKnown, IsNoCell, NamesNoRow, HasFailing, StandsAs};
+ghost use Rattle.ras_known.specs.Knowledge.{IsTruth, IsKnown};
+ghost use Rattle.ras_entail.specs.Judgements.{IsNoCell, NamesNoRow, HasFailing, StandsAs};
 
-use crate::known::{Known, truth_of};
+use ras_known::{Known, truth_of};
 use ras_logic::{Base, Cube, Literal};
 use std::alloc::{AllocError, Global};
 

@@ -8,8 +8,6 @@
 mod entail;
 mod entailing;
 mod judging;
-mod known;
-mod maps;
 mod scanning;
 mod starts;
 mod states;
@@ -17,5 +15,4 @@ mod witnesses;
 
 pub use entail::Entail;
 pub use entailing::entails;
-pub use maps::row_maps;
 pub use starts::initial_meets;

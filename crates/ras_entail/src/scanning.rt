@@ -1,13 +1,13 @@
 ghost use Rattle.std.specs.Prelude.{◌≡◌, ◌<◌, ◌≤◌, [], ◌∷◌, length, IfOk, MatchOption, All};
 ghost use Rattle.ras_logic.specs.Formulas.{Fits, IsCube};
 ghost use Rattle.ras_logic.specs.Refutations.{AreRowsOf};
-ghost use Rattle.ras_entail.specs.Knowledge.{IsKnown};
+ghost use Rattle.ras_known.specs.Knowledge.{IsKnown};
 ghost use Rattle.ras_entail.specs.Scans.{AddsMap, AddsMaps, AddsInstances, IsHeld, IsHeldIn, AreEnough};
 
 use crate::judging::{Standing, has_failing, judge};
-use crate::known::Known;
-use crate::maps::row_maps;
+use ras_known::Known;
 use ras_logic::{Cube, List, Shared};
+use ras_row_maps::row_maps;
 use ras_sat::Instance;
 use std::alloc::{AllocError, Global};
 

@@ -21,7 +21,7 @@ use Rattle.ras_sat.specs.Answers.{IsEscape}
 use Rattle.ras_sat.specs.Tasks.{IsTask, AreOpposites, opposites_at}
 use Rattle.ras_sat.specs.Choices.{HoldsSome, HoldsNone, IsConsidered}
 use Rattle.ras_sat.specs.Verdicts.{IsCase, IsUnsplit}
-use Rattle.ras_sat.proofs.FactModels.{IsModelOfFacts}
+use Rattle.ras_known.proofs.FactModels.{IsModelOfFacts}
 
 -- an element of a mapped list comes from one of the list
 mapped-from : {A B : Type 0} (f : A → B) (xs : List A) (y : B) → Contains (map f xs) y → (x : A) × Contains xs x × (f x ≡ y)

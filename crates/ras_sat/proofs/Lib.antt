@@ -1,6 +1,6 @@
 pub mod Wider
 pub mod Joining
-pub mod FactModels
+pub mod CaseFacts
 pub mod Choosing
 pub mod Opposing
 pub mod Depths

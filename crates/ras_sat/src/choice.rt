@@ -1,10 +1,11 @@
 ghost use Rattle.std.specs.Prelude.{◌≡◌, ◌<◌, ◌≤◌, ◌⊎◌, ℕ, length, IfNone, IfSome, MatchBool};
+ghost use Rattle.ras_known.specs.Knowledge.{IsKnown};
 ghost use Rattle.ras_sat.specs.Tasks.{opposites_at};
 ghost use Rattle.ras_sat.specs.Choices.{HoldsSome, HoldsNone, IsConsidered};
 
-use crate::known::Known;
 use crate::task::Task;
 use ras_closure::Model;
+use ras_known::{Known, truth_of};
 use ras_logic::{Literal, holds};
 
 /// An instance to split on.
@@ -30,11 +31,12 @@ fn holds_some(model: &Model, literals: &[Literal]) -> bool
 
 /// How many children a split has that aren't known to clash at once.
 fn open_children(known: &Known<'_>, opposites: &[Literal]) -> usize
+    requires { IsKnown known.now }
     ensures { result ≤ length opposites.now }
 {
     let mut open = 0;
     for opposite in opposites {
-        if !known.refutes(opposite) {
+        if truth_of(known, opposite) != Some(false) {
             open += 1;
         }
     }
@@ -42,7 +44,9 @@ fn open_children(known: &Known<'_>, opposites: &[Literal]) -> usize
 }
 
 /// The rank of an instance: splits with no open child come first, then those with one, then those with the fewest children.
-fn rank(known: &Known<'_>, opposites: &[Literal]) -> usize {
+fn rank(known: &Known<'_>, opposites: &[Literal]) -> usize
+    requires { IsKnown known.now }
+{
     let open = open_children(known, opposites);
     if open > 1 { opposites.len() } else { open }
 }
@@ -62,6 +66,7 @@ fn consider(
     opposites: &[Literal],
     best: Option<Choice>,
 ) -> Option<Choice>
+    requires { IsKnown known.now }
     ensures { IsConsidered model.now instance opposites.now best result }
 {
     if holds_some(model, opposites) {
@@ -79,6 +84,7 @@ fn consider(
 
 /// The instance to split on; none where each has an opposite that holds in the model.
 pub fn choose(task: &Task<'_>, known: &Known<'_>, model: &Model) -> Option<usize>
+    requires { IsKnown known.now }
     ensures none { IfNone result ((k : ℕ) → k < length task.now.opposites.now → HoldsSome model.now.db model.now.values (opposites_at task.now k)) }
     ensures within { IfSome result (λ k. k < length task.now.opposites.now) }
     ensures unfalsified { IfSome result (λ k. HoldsNone model.now.db model.now.values (opposites_at task.now k)) }

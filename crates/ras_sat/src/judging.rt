@@ -4,10 +4,10 @@ ghost use Rattle.ras_sat.specs.Tasks.{IsTask};
 ghost use Rattle.ras_sat.specs.Verdicts.{IsCase, IsVerdict};
 
 use crate::choice::choose;
-use crate::known::Known;
 use crate::task::Task;
 use crate::verdict::Verdict;
 use ras_closure::Closure;
+use ras_known::{Known, all_apart};
 use ras_logic::Problem;
 use std::alloc::{AllocError, Global};
 
@@ -25,7 +25,14 @@ fn judge_by(
 {
     task.shape.known();
     let model = closure.model(alloc)?;
-    let known = Known::of(alloc, task.shape, facts, closure)?;
+    // what is known only guides the order of splits
+    let apart = all_apart(alloc, task.shape, facts, closure)?;
+    let known = Known {
+        shape: task.shape,
+        premise: facts,
+        closure,
+        apart: &apart,
+    };
     match choose(task, &known, &model) {
         None => Ok(Verdict::Escape(model)),
         Some(instance) => Ok(Verdict::Open(instance)),

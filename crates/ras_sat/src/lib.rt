@@ -14,7 +14,6 @@ mod facts;
 mod instance;
 mod instances;
 mod judging;
-mod known;
 mod law;
 mod open_split;
 mod opposites;

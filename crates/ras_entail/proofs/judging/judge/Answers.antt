@@ -1,13 +1,12 @@
 use Rattle.std.proofs.Common.{◌≡◌, ◌+◌, ◌<◌, true, false, List, take, length, get_or, sym, ◌∙◌, ap, subst, arith}
-use Rattle.std.specs.Prelude.{All, IfSome}
-use Rattle.std.specs.Bool.{OnTrue}
+use Rattle.std.specs.Prelude.{All}
 use Rattle.std.proofs.lemmas.Bool.{OnTrue_from, OnTrue_at}
 use Rattle.std.proofs.lemmas.List.{take_all}
 use Rattle.std.proofs.lemmas.List.Elements.{All-more}
 use Rattle.ras_logic.specs.declared.literal.Literal.{Literal}
 use Rattle.ras_logic.specs.Formulas.{replace}
 use Rattle.ras_logic.specs.Refutations.{chosen_row}
-use Rattle.ras_entail.specs.Knowledge.{IsTruth}
+use Rattle.ras_known.specs.Knowledge.{IsTruth}
 use Rattle.ras_entail.proofs.judging.judge.Goals as goal
 use Rattle.ras_entail.proofs.judging.judge.Goals.{in-Some-true, in-None}
 

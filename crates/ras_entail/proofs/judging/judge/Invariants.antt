@@ -4,7 +4,7 @@ use Rattle.std.specs.Bool.{OnTrue}
 use Rattle.ras_logic.specs.declared.literal.Literal.{Literal}
 use Rattle.ras_logic.specs.Formulas.{replace}
 use Rattle.ras_logic.specs.Refutations.{chosen_row}
-use Rattle.ras_entail.specs.Knowledge.{IsTruth}
+use Rattle.ras_known.specs.Knowledge.{IsTruth}
 use Rattle.ras_entail.proofs.judging.judge.Given as goal
 
 abbrev pub invariant-loop-literal : goal.invariant-loop-literal

@@ -1,6 +1,5 @@
-use Rattle.std.proofs.Common.{◌≡◌, [], ◌∷◌, List, sym, subst}
+use Rattle.std.proofs.Common.{◌≡◌, [], ◌∷◌, sym, subst}
 use Rattle.std.proofs.lemmas.Result.{IfOk-weaker}
-use Rattle.ras_sat.specs.declared.instance.Instance.{Instance}
 use Rattle.ras_entail.specs.Scans.{AreEnough, IsHeldIn, AddsInstances}
 use Rattle.ras_entail.proofs.Enough.{enough-all, enough-more}
 use Rattle.ras_entail.proofs.FailingLiterals.{held-enough}

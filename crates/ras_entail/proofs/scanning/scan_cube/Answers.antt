@@ -7,7 +7,7 @@ use Rattle.ras_logic.specs.declared.ids.RelId.{RelId}
 use Rattle.ras_logic.specs.declared.problem.Problem.{Problem}
 use Rattle.ras_logic.specs.Formulas.{Fits}
 use Rattle.ras_logic.proofs.Elements.{from_known}
-use Rattle.ras_entail.specs.RowMaps.{AreRowMaps}
+use Rattle.ras_row_maps.specs.RowMaps.{AreRowMaps}
 use Rattle.ras_entail.specs.Scans.{AddsMaps, AddsInstances, IsHeld, IsHeldIn}
 use Rattle.ras_entail.proofs.Enough.{none-added, cube-scanned}
 use Rattle.ras_entail.proofs.scanning.scan_cube.Goals as goal

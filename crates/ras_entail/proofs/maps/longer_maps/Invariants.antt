@@ -1,5 +1,0 @@
-use Rattle.ras_entail.specs.RowMaps.{AreLongerBelow}
-use Rattle.ras_entail.proofs.maps.longer_maps.Given as goal
-
-abbrev pub invariant-loop-row : goal.invariant-loop-row
-invariant-loop-row l = AreLongerBelow l.to l.relation l.map l.row l.longer

@@ -1,0 +1,2 @@
+pub mod KnownTruth
+pub mod FactModels

@@ -1,0 +1,3 @@
+pub mod ListPairs
+pub mod Longer
+pub mod Rooms

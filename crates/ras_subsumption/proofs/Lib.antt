@@ -1,0 +1,4 @@
+pub mod Adding
+pub mod WidenedCubes
+pub mod ExactTruth
+pub mod FirstMaps

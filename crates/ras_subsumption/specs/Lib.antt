@@ -1,0 +1,3 @@
+pub mod Subsumption
+pub mod Places
+pub mod Widened
