@@ -1,0 +1,9 @@
+pub mod Places
+pub mod Growing
+pub mod Rooms
+pub mod Justified
+pub mod Names
+pub mod Chained
+pub mod Fields
+pub mod Answered
+pub mod Compared
