@@ -5,7 +5,7 @@ use Rattle.ras_cli.specs.Outcomes.{OfBundleError}
 use Rattle.ras_cli.proofs.judging.judged_bundle.Goals as goal
 
 pub judged-requires : goal.judged-requires
-judged-requires c = writable_complete c.in-Ok.bundle.evidence c.in-Ok.ensures.bundle.writable
+judged-requires c = writable_complete c.in-Ok.bundle.evidence c.in-Ok.ensures.bundle.writable.0
 
 pub returns-in-Err-System : goal.returns-in-Err-System
 returns-in-Err-System c =
