@@ -21,7 +21,9 @@ use crate::found::Found;
 use crate::named::Named;
 use crate::naming::{kept_names, names_from, numbers};
 use crate::outcome::{Admitted, Dropped, Finished, Quiet, Skipped};
-use crate::parts::{put_ready, renew_serial, take_ready};
+use crate::parts::{
+    make_room_beside, put_found, put_ready, renew_serial, take_ready, three_owners, two_owners,
+};
 use crate::site::Site;
 use crate::ticket::Ticket;
 use ras_core::{
@@ -501,16 +503,12 @@ impl Store {
         ensures ok { OnOk result (self.new ≡ with_entry self.old origin cube witness) }
         ensures err { OnErr result (self.new ≡ self.old) }
     {
-        let submitted = cube.another()?;
-        let ready = cube.another()?;
-        let kept = cube.another()?;
+        let (kept, submitted, ready) = three_owners(&cube)?;
         cube.get().known();
         let rows = cube.get().rows().len() as u32;
         let number = self.core.entries().len() as u32;
         self.journal.make_room(3 * number + 5)?;
-        self.witnesses.reserve(1)?;
-        self.serials.reserve(1)?;
-        self.ready.reserve(1)?;
+        make_room_beside(&mut self.witnesses, &mut self.serials, &mut self.ready)?;
         self.core.admit(origin, kept, submitted)?;
         self.witnesses.push_reserved(witness);
         self.serials.push_reserved(0);
@@ -532,17 +530,17 @@ impl Store {
         ensures ok { OnOk result (self.new ≡ with_spill self.old origin cube witness) }
         ensures err { OnErr result (self.new ≡ self.old) }
     {
-        let kept = cube.another()?;
-        let found = cube.another()?;
+        let (kept, found) = two_owners(&cube)?;
         let count = self.core.entries().len() as u32;
         self.journal.make_room(3 * count + 2)?;
         self.core.keep_spill(origin, kept);
         self.journal.add(Event::Spill { origin, cube });
-        self.spill = Some(Found {
+        let found = Found {
             cube: found,
             origin,
             witness,
-        });
+        };
+        put_found(&mut self.spill, found);
         Ok(())
     }
 
@@ -583,17 +581,17 @@ impl Store {
         ensures ok { OnOk result (self.new ≡ with_hit self.old origin cube witness) }
         ensures err { OnErr result (self.new ≡ self.old) }
     {
-        let kept = cube.another()?;
-        let found = cube.another()?;
+        let (kept, found) = two_owners(&cube)?;
         let count = self.core.entries().len() as u32;
         self.journal.make_room(3 * count + 2)?;
         self.core.keep_hit(origin, kept);
         self.journal.add(Event::Hit { origin, cube });
-        self.hit = Some(Found {
+        let found = Found {
             cube: found,
             origin,
             witness,
-        });
+        };
+        put_found(&mut self.hit, found);
         Ok(())
     }
 
