@@ -1,0 +1,2 @@
+pub mod Tightened
+pub mod Tightening
