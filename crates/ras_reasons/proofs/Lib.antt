@@ -1,0 +1,2 @@
+mod NamedFormulas
+mod Marks
