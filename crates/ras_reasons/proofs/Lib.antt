@@ -1,2 +1,2 @@
-mod NamedFormulas
+pub mod NamedFormulas
 mod Marks
